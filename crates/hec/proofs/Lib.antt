@@ -1,0 +1,17 @@
+pub mod Both
+pub mod Xor
+pub mod Ones
+pub mod Linear
+pub mod Range
+pub mod Low
+pub mod Multiple
+pub mod RemainderRule
+pub mod Syndrome
+pub mod FlipRule
+pub mod Words
+pub mod Nearest
+pub mod Patterns
+pub mod SyndromeRule
+pub mod LentReads
+pub mod Protected
+pub mod Steps

@@ -1,0 +1,4 @@
+pub mod Code
+pub mod Reads
+pub mod Writes
+pub mod Lent

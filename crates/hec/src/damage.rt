@@ -1,0 +1,71 @@
+// Where a word is damaged: its syndrome, and the word that is left when the bits that it points to are flipped.
+ghost use mathlib.Core.Path.{_≡_};
+ghost use Rattle.hec.specs.Lent.{syndromeBy, remainderOf, countOf, mendedBy, foundMended};
+
+pub enum Mended {
+    Word(u64),
+    Unreadable,
+}
+
+pub fn syndrome64(t: &[u16; 2048], word: u64) -> u16
+    ensures { λ r. ⌜ r ≡ syndromeBy (now (t .entry)) 8 0 word ⌝ }
+{
+    let w1 = word / 256;
+    let w2 = w1 / 256;
+    let w3 = w2 / 256;
+    let w4 = w3 / 256;
+    let w5 = w4 / 256;
+    let w6 = w5 / 256;
+    let w7 = w6 / 256;
+    t[(word % 256) as usize]
+        ^ (t[256 + (w1 % 256) as usize]
+            ^ (t[512 + (w2 % 256) as usize]
+                ^ (t[768 + (w3 % 256) as usize]
+                    ^ (t[1024 + (w4 % 256) as usize]
+                        ^ (t[1280 + (w5 % 256) as usize]
+                            ^ (t[1536 + (w6 % 256) as usize] ^ t[1792 + (w7 % 256) as usize]))))))
+}
+
+pub fn syndrome32(t: &[u16; 2048], word: u32) -> u16
+    ensures { λ r. ⌜ r ≡ syndromeBy (now (t .entry)) 4 0 word ⌝ }
+{
+    let w1 = word / 256;
+    let w2 = w1 / 256;
+    let w3 = w2 / 256;
+    t[(word % 256) as usize]
+        ^ (t[256 + (w1 % 256) as usize]
+            ^ (t[512 + (w2 % 256) as usize] ^ t[768 + (w3 % 256) as usize]))
+}
+
+// 63 stands for no place.
+fn remainder_of(remainders: &[u16; 63], place: usize) -> u16
+    ensures { λ r. ⌜ r ≡ remainderOf (now (remainders .entry)) place ⌝ }
+{
+    if place < 63 { remainders[place] } else { 0 }
+}
+
+fn count_of(place: usize) -> u64
+    ensures { λ r. ⌜ r ≡ countOf place ⌝ }
+{
+    if place < 63 { 1 } else { 0 }
+}
+
+pub fn mend(remainders: &[u16; 63], flips: &[u16; 4096], word: u64, syndrome: u16) -> Mended
+    ensures { λ r. ⌜ foundMended r ≡ mendedBy (now (remainders .entry)) (now (flips .entry)) word syndrome ⌝ }
+{
+    let remainder = syndrome % 4096;
+    let proposed = flips[remainder as usize];
+    let first = (proposed % 64) as usize;
+    let second = (proposed / 64 % 64) as usize;
+    if remainder_of(remainders, first) ^ remainder_of(remainders, second) != remainder {
+        return Mended::Unreadable;
+    }
+    let count = count_of(first) + count_of(second);
+    let last = (count + (syndrome / 4096) as u64) % 2;
+    if count + last <= 2 {
+        let bits: u64 = (2 << first) ^ (2 << second);
+        Mended::Word(word ^ (bits ^ last))
+    } else {
+        Mended::Unreadable
+    }
+}

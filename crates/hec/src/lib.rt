@@ -1,0 +1,127 @@
+// The header error control of G.987.3, Annex A: words of 32 and of 64 bits, the last 13 of which protect the others. A
+// word is read as the true word of its length at most two bits away.
+ghost use mathlib.Core.Path.{_≡_};
+ghost use Prim.Native.Nat.{_%_, _^_};
+ghost use Rattle.hec.specs.Reads.{Reads, found32, found64};
+ghost use Rattle.hec.specs.Writes.{Written};
+ghost use Rattle.hec.specs.Lent.{readingBy, sent};
+
+mod damage;
+pub mod flips;
+mod protect;
+pub mod remainders;
+pub mod syndromes;
+
+use damage::Mended;
+
+// A true word of 32 bits. Only this crate makes one, so whatever is taken from one has been checked and mended.
+pub struct Word32(u32);
+
+// A true word of 64 bits.
+pub struct Word64(u64);
+
+pub enum Reading32 {
+    Word(Word32),
+    Unreadable,
+}
+
+pub enum Reading64 {
+    Word(Word64),
+    Unreadable,
+}
+
+impl Word32 {
+    pub fn bits(self) -> u32
+        ensures { λ r. ⌜ r ≡ self .0 ⌝ }
+    {
+        self.0
+    }
+}
+
+impl Word64 {
+    pub fn bits(self) -> u64
+        ensures { λ r. ⌜ r ≡ self .0 ⌝ }
+    {
+        self.0
+    }
+}
+
+// The true word of 64 bits at most two bits away.
+pub fn read64(word: u64) -> Reading64
+    ensures { λ r. ⌜ Reads 64 word (found64 r) ⌝ }
+{
+    let syndromes = syndromes::table();
+    let remainders = remainders::table();
+    let flips = flips::table();
+    read64_by(&syndromes, &remainders, &flips, word)
+}
+
+// The true word of 32 bits at most two bits away.
+pub fn read32(word: u32) -> Reading32
+    ensures { λ r. ⌜ Reads 32 word (found32 r) ⌝ }
+{
+    let syndromes = syndromes::table();
+    let remainders = remainders::table();
+    let flips = flips::table();
+    read32_by(&syndromes, &remainders, &flips, word)
+}
+
+// The same by lent tables: whoever reads many words names each table once.
+pub fn read64_by(
+    syndromes: &[u16; 2048],
+    remainders: &[u16; 63],
+    flips: &[u16; 4096],
+    word: u64,
+) -> Reading64
+    ensures { λ r. ⌜ found64 r ≡ readingBy (now (syndromes .entry)) (now (remainders .entry)) (now (flips .entry)) 8 word ⌝ }
+{
+    let syndrome = damage::syndrome64(syndromes, word);
+    if syndrome == 0 {
+        return Reading64::Word(Word64(word));
+    }
+    let mend = damage::mend(remainders, flips, word, syndrome);
+    match mend {
+        Mended::Word(v) => Reading64::Word(Word64(v)),
+        Mended::Unreadable => Reading64::Unreadable,
+    }
+}
+
+pub fn read32_by(
+    syndromes: &[u16; 2048],
+    remainders: &[u16; 63],
+    flips: &[u16; 4096],
+    word: u32,
+) -> Reading32
+    ensures { λ r. ⌜ found32 r ≡ sent (readingBy (now (syndromes .entry)) (now (remainders .entry)) (now (flips .entry)) 4 word) ⌝ }
+{
+    let syndrome = damage::syndrome32(syndromes, word);
+    if syndrome == 0 {
+        return Reading32::Word(Word32(word));
+    }
+    let mend = damage::mend(remainders, flips, word as u64, syndrome);
+    match mend {
+        Mended::Word(v) => {
+            // The 32 zeros in front are not sent: a repair that needs one of them is none.
+            if v < 0x1_0000_0000 {
+                Reading32::Word(Word32(v as u32))
+            } else {
+                Reading32::Unreadable
+            }
+        }
+        Mended::Unreadable => Reading32::Unreadable,
+    }
+}
+
+// The true word with the 51 data bits given; what stands above them is not looked at.
+pub fn write64(bits: u64) -> Word64
+    ensures { λ r. ⌜ Written 64 (bits % 2 ^ 51) (r .0) ⌝ }
+{
+    Word64(protect::protected(bits % 0x8_0000_0000_0000))
+}
+
+// The true word with the 19 data bits given; what stands above them is not looked at.
+pub fn write32(bits: u32) -> Word32
+    ensures { λ r. ⌜ Written 32 (bits % 2 ^ 19) (r .0) ⌝ }
+{
+    Word32(protect::protected((bits % 0x8_0000) as u64) as u32)
+}
