@@ -56,3 +56,7 @@ written-once n d u v wide a b =
 
     none : x ≡ 0
     none = sym (low-remainder x (omega (arith, top))) ∙ rem-xor 63 1 (u / 2) (v / 2) ∙ ap₂ bitXor (code u (a .true)) (code v (b .true))
+
+-- so what meets `Written` is the protected word
+pub is-protected : (j d v : ℕ) → j + 13 ≤ 64 → d < 2 ^ j → Written (suc (j + 12)) d v → v ≡ protected d
+is-protected j d v wide h a = written-once (suc (j + 12)) d v (protected d) (omega arith) a (protected-written j d wide h)

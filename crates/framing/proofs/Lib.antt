@@ -1,0 +1,5 @@
+pub mod Numbers
+pub mod Steps
+pub mod Layouts
+pub mod Padding
+pub mod Frames

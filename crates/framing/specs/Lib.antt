@@ -1,0 +1,4 @@
+pub mod Octets
+pub mod Layouts
+pub mod Reads
+pub mod Writes

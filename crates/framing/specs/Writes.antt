@@ -1,0 +1,56 @@
+-- What writing a structure leaves: answer 0 and its octets, or answer 11 and nothing changed.
+-- Assumes nothing.
+use mathlib.Core.Bool.{Bool, cond, _&&_}
+use mathlib.Core.List.{List, _++_}
+use Prim.Native.Nat.{ℕ, _+_, _-_}
+use lib.Dec.{leb}
+use lib.ListN.{length, drop, replicate}
+use Rattle.ids.specs.declared.PortId.{PortId}
+use Rattle.framing.specs.Octets.{octets}
+use Rattle.framing.specs.Layouts.{hlendFits, hlendWord, allocationFits, allocationWord, xgemFits, xgemWord, payloadSize}
+use Rattle.framing.specs.declared.hlend.Hlend.{Hlend}
+use Rattle.framing.specs.declared.allocation.Allocation.{Allocation}
+use Rattle.framing.specs.declared.xgem.XgemHeader.{XgemHeader}
+use Rattle.framing.specs.declared.octets.Written.{Written}
+use Rattle.framing.specs.declared.octets.Written.the-variants.{Done, Refused}
+
+-- document 01's number for each answer: 11 where a value is too wide for its field or the target too short
+abbrev pub number : Written → ℕ
+number Done = 0
+number Refused = 11
+
+-- the answer, and what the target then holds
+pub record Left : Type 0 where
+  pub answer : Written
+  pub target : List ℕ
+
+-- octets at the start of a target, the rest unchanged
+abbrev pub put : List ℕ → List ℕ → List ℕ
+put t s = s ++ drop (length s) t
+
+abbrev pub wrote : Bool → List ℕ → List ℕ → Left
+wrote fits s t = cond (fits && leb (length s) (length t)) (record { answer = Done; target = put t s }) (record { answer = Refused; target = t })
+
+abbrev pub writeHlend : Hlend → List ℕ → Left
+writeHlend h t = wrote (hlendFits h) (octets 4 (hlendWord h)) t
+
+abbrev pub writeAllocation : Allocation → List ℕ → Left
+writeAllocation a t = wrote (allocationFits a) (octets 8 (allocationWord a)) t
+
+abbrev pub writeXgem : XgemHeader → List ℕ → Left
+writeXgem x t = wrote (xgemFits x) (octets 8 (xgemWord x)) t
+
+-- 9.1.3: padding is 0x55
+abbrev pub padding : ℕ → List ℕ
+padding pli = replicate (payloadSize pli - pli) 0x55
+
+-- an XGEM frame: header, SDU and padding
+abbrev pub xgemFrame : XgemHeader → List ℕ → List ℕ
+xgemFrame x sdu = octets 8 (xgemWord x) ++ (sdu ++ padding (length sdu))
+
+-- the header of a frame that carries an SDU: its PLI is the SDU's length
+abbrev pub carrying : XgemHeader → List ℕ → XgemHeader
+carrying x sdu = record { pli = length sdu; key = x .key; port = x .port; options = x .options; last = x .last }
+
+abbrev pub writeXgemFrame : XgemHeader → List ℕ → List ℕ → Left
+writeXgemFrame x sdu t = wrote (xgemFits (carrying x sdu)) (xgemFrame (carrying x sdu) sdu) t
