@@ -15,3 +15,5 @@ pub mod SyndromeRule
 pub mod LentReads
 pub mod Protected
 pub mod Steps
+pub mod Determined
+pub mod Compute

@@ -1,0 +1,2 @@
+pub mod HeaderFact
+pub mod TableOfSums
