@@ -3,7 +3,11 @@
 use mathlib.Core.Path.{_≡_, refl, sym, ap, ap₂, _∙_}
 use mathlib.Core.Bool.{Bool, true, false, cond}
 use mathlib.Core.List.{List}
-use Prim.Native.Nat.{ℕ, _+_, _/_, _%_, _^_, _≤_, _<_}
+use Prim.Native.Nat.{ℕ, zero, suc, _+_, _-_, _*_, _/_, _%_, _^_, _≤_, _<_}
+use native.Mathlib.Nat.{mul-one, mul-zero}
+use native.Mathlib.Decide.{decLt}
+use native.Mathlib.Omega.{arith}
+use lib.ListN.{getD}
 use borrow.Author.Tests.{eq-eqb, ne-eqb, le-leb, lt-leb, lt-ltb, le-ltb}
 use lib.Bits.{bitXor}
 use lib.Dec.{eqb, leb, ltb, lit≤}
@@ -16,6 +20,35 @@ module _ (t r f : List ℕ) (o w s : ℕ) (e : s ≡ syndromeBy t o 0 w) where
 
   pub damaged : (x : Reading) → (s ≡ 0 → ⊥) → x ≡ mendedBy r f w s → x ≡ readingBy t r f o w
   damaged x n m = rw (ne-eqb (syndromeBy t o 0 w) 0 (λ z. n (e ∙ z))) (m ∙ ap (mendedBy r f w) e)
+
+-- a place by arithmetic: 63, for none, is the only one whose follower reaches 64
+module _ (place : ℕ) (small : place < 64) where
+  pub none-le : (place + 1) / 64 ≤ 1
+  none-le = omega arith
+
+  pub count-at : 1 - (place + 1) / 64 ≡ countOf place
+  count-at = go (decLt place 63)
+    where
+      go : Dec (place < 63) → 1 - (place + 1) / 64 ≡ countOf place
+      go (yes l) = rw (lt-ltb place 63 l) (omega arith)
+      go (no l) = rw (le-ltb place 63 (omega arith)) (omega arith)
+
+  pub remainder-at : (r : List ℕ) → getD r (place - (place + 1) / 64) 0 * (1 - (place + 1) / 64) ≡ remainderOf r place
+  remainder-at r = go (decLt place 63)
+    where
+      go : Dec (place < 63) → getD r (place - (place + 1) / 64) 0 * (1 - (place + 1) / 64) ≡ remainderOf r place
+      go (yes l) =
+          let z : (place + 1) / 64 ≡ 0 = omega arith in
+          let p : place - 0 ≡ place = omega arith in
+          rw (lt-ltb place 63 l, z, p) (mul-one (getD r place 0))
+      go (no l) =
+          let o : (place + 1) / 64 ≡ 1 = omega arith in
+          rw (le-ltb place 63 (omega arith), o) (mul-zero (getD r (place - 1) 0))
+
+pub times-bit : (x b : ℕ) → b ≤ 1 → x * b ≤ x
+times-bit x zero h = omega (arith, mul-zero x)
+times-bit x (suc zero) h = omega (arith, mul-one x)
+times-bit x (suc (suc b)) h = absurd (omega arith)
 
 pub count-le : (k : ℕ) → countOf k ≤ 1
 count-le k = go (ltb k 63)

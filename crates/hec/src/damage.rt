@@ -1,5 +1,6 @@
 // Where a word is damaged: its syndrome, and the word that is left when the bits that it points to are flipped.
 ghost use mathlib.Core.Path.{_≡_};
+ghost use Prim.Native.Nat.{_-_, _*_, _<_, _≤_};
 ghost use Rattle.hec.specs.Lent.{syndromeBy, remainderOf, countOf, mendedBy, foundMended};
 
 pub enum Mended {
@@ -37,17 +38,27 @@ pub fn syndrome32(t: &[u16; 2048], word: u32) -> u16
             ^ (t[512 + (w2 % 256) as usize] ^ t[768 + (w3 % 256) as usize]))
 }
 
-// 63 stands for no place.
+// 63 stands for no place. It is met without a branch: which places a damaged word needs is nothing to be guessed.
+fn unless(none: u16, x: u16) -> u16
+    requires { ⌜ none ≤ 1 ⌝ }
+    ensures { λ r. ⌜ r ≡ x * (1 - none) ⌝ }
+{
+    x * (1 - none)
+}
+
 fn remainder_of(remainders: &[u16; 63], place: usize) -> u16
+    requires { ⌜ place < 64 ⌝ }
     ensures { λ r. ⌜ r ≡ remainderOf (now (remainders .entry)) place ⌝ }
 {
-    if place < 63 { remainders[place] } else { 0 }
+    let none = (place + 1) / 64;
+    unless(none as u16, remainders[place - none])
 }
 
 fn count_of(place: usize) -> u64
+    requires { ⌜ place < 64 ⌝ }
     ensures { λ r. ⌜ r ≡ countOf place ⌝ }
 {
-    if place < 63 { 1 } else { 0 }
+    1 - ((place + 1) / 64) as u64
 }
 
 pub fn mend(remainders: &[u16; 63], flips: &[u16; 4096], word: u64, syndrome: u16) -> Mended
