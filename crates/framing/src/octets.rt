@@ -27,20 +27,20 @@ fn wide64(x: u8) -> u64
 }
 
 // A mark of one bit.
-pub fn bit(set: bool) -> u64
+pub(crate) fn bit(set: bool) -> u64
     ensures { λ r. ⌜ (r ≡ bit set) × (r < 2) ⌝ }
 {
     if set { 1 } else { 0 }
 }
 
-pub fn word32(s: &[u8]) -> u32
+pub(crate) fn word32(s: &[u8]) -> u32
     requires { ⌜ 4 ≤ length (now s) ⌝ }
     ensures { λ r. ⌜ r ≡ value (take 4 (now (s .entry))) ⌝ }
 {
     wide32(s[0]) * 0x100_0000 + (wide32(s[1]) * 0x1_0000 + (wide32(s[2]) * 0x100 + wide32(s[3])))
 }
 
-pub fn word64(s: &[u8]) -> u64
+pub(crate) fn word64(s: &[u8]) -> u64
     requires { ⌜ 8 ≤ length (now s) ⌝ }
     ensures { λ r. ⌜ r ≡ value (take 8 (now (s .entry))) ⌝ }
 {
@@ -62,7 +62,7 @@ fn put32(target: &mut [u8], word: u32)
     target[3] = (word / 1 % 256) as u8;
 }
 
-pub fn put64(target: &mut [u8], word: u64)
+pub(crate) fn put64(target: &mut [u8], word: u64)
     requires { ⌜ 8 ≤ length (now target) ⌝ }
     ensures { λ _. ⌜ now (target .exit) ≡ put (now (target .entry)) (octets 8 word) ⌝ }
 {
@@ -77,7 +77,7 @@ pub fn put64(target: &mut [u8], word: u64)
 }
 
 // The protected word of the data bits at the start of a target, where they fit their fields and the target has room.
-pub fn write32(fits: bool, bits: u32, target: &mut [u8]) -> Written
+pub(crate) fn write32(fits: bool, bits: u32, target: &mut [u8]) -> Written
     ensures { λ r. ⌜ record { answer = r; target = now (target .exit) } ≡ wrote fits (octets 4 (protected (bits % 2 ^ 19))) (now (target .entry)) ⌝ }
 {
     if !fits {
@@ -90,7 +90,7 @@ pub fn write32(fits: bool, bits: u32, target: &mut [u8]) -> Written
     Written::Done
 }
 
-pub fn write64(fits: bool, bits: u64, target: &mut [u8]) -> Written
+pub(crate) fn write64(fits: bool, bits: u64, target: &mut [u8]) -> Written
     ensures { λ r. ⌜ record { answer = r; target = now (target .exit) } ≡ wrote fits (octets 8 (protected (bits % 2 ^ 51))) (now (target .entry)) ⌝ }
 {
     if !fits {

@@ -8,7 +8,7 @@ pub enum Mended {
     Unreadable,
 }
 
-pub fn syndrome64(t: &[u16; 2048], word: u64) -> u16
+pub(crate) fn syndrome64(t: &[u16; 2048], word: u64) -> u16
     ensures { λ r. ⌜ r ≡ syndromeBy (now (t .entry)) 8 0 word ⌝ }
 {
     let w1 = word / 256;
@@ -27,7 +27,7 @@ pub fn syndrome64(t: &[u16; 2048], word: u64) -> u16
                             ^ (t[1536 + (w6 % 256) as usize] ^ t[1792 + (w7 % 256) as usize]))))))
 }
 
-pub fn syndrome32(t: &[u16; 2048], word: u32) -> u16
+pub(crate) fn syndrome32(t: &[u16; 2048], word: u32) -> u16
     ensures { λ r. ⌜ r ≡ syndromeBy (now (t .entry)) 4 0 word ⌝ }
 {
     let w1 = word / 256;
@@ -61,7 +61,7 @@ fn count_of(place: usize) -> u64
     1 - ((place + 1) / 64) as u64
 }
 
-pub fn mend(remainders: &[u16; 63], flips: &[u16; 4096], word: u64, syndrome: u16) -> Mended
+pub(crate) fn mend(remainders: &[u16; 63], flips: &[u16; 4096], word: u64, syndrome: u16) -> Mended
     ensures { λ r. ⌜ foundMended r ≡ mendedBy (now (remainders .entry)) (now (flips .entry)) word syndrome ⌝ }
 {
     let remainder = syndrome % 4096;

@@ -27,7 +27,7 @@ fn closed(code: u64) -> u64
     code * 2 + (u64::count_ones(code) % 2) as u64
 }
 
-pub fn protected(bits: u64) -> u64
+pub(crate) fn protected(bits: u64) -> u64
     requires { ⌜ bits < 2 ^ 51 ⌝ }
     ensures { λ r. ⌜ r ≡ protected bits ⌝ }
 {
