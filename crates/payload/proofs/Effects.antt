@@ -1,0 +1,114 @@
+-- What an effect says of the ports is so, and the ports stay within their bounds.
+-- Assumes nothing.
+use mathlib.Core.Path.{_≡_, refl, sym, ap, _∙_}
+use mathlib.Core.Bool.{Bool, true, false, cond, not}
+use mathlib.Core.List.{List, [], _∷_}
+use Prim.Native.Nat.{ℕ, zero, suc, _+_, _*_, _≤_, _<_, zero-le}
+use native.Mathlib.Nat.{le-of-suc-le-suc, not-suc-le-zero}
+use native.Mathlib.Omega.{arith}
+use borrow.Author.Tests.{ltb-false, le-leb, lt-leb, leb-true}
+use lib.Dec.{eqb, ltb, leb}
+use lib.ListN.{length, getD, set, drop, drop-of-length-le}
+use lib.Seq.{drop-cons}
+use Rattle.hec.proofs.Both.{and-left, and-right}
+use Rattle.ids.specs.declared.PortId.{PortId}
+use Rattle.ids.specs.Ids.{samePort, assignablePort}
+use Rattle.station.specs.declared.slots.Ports.{Ports}
+use Rattle.station.specs.declared.held.Place.{Place}
+use Rattle.station.specs.declared.held.Place.the-variants.{At, Nowhere}
+use Rattle.station.specs.Limits.{slots, addedPorts, slotBytes}
+use Rattle.station.specs.Lists.{Below, placeFrom}
+use Rattle.station.specs.Slots.{portPlace}
+use Rattle.payload.specs.declared.fragments.Effect.{Effect}
+use Rattle.payload.specs.declared.fragments.Effect.the-variants.{Nothing, Discard, Deliver, Append}
+use Rattle.payload.specs.Fragments.{behind, slotOf, atSlot, atPlace, effectOf, after}
+use Rattle.payload.specs.Walk.{allWithin}
+use Rattle.payload.specs.Bounds.{Within, total}
+
+-- a slot that a port has is one of the seventeen, where the list of added ports has its length
+place-below : {A : Type 0} (f : A → Bool) (i : ℕ) (l : List A) → Below (placeFrom f i l) (i + length l)
+place-below f i [] = tt
+place-below f i (a ∷ l) = go (f a) (placeFrom f (i + 1) l) (place-below f (i + 1) l)
+  where
+    go : (b : Bool) (p : Place) → Below p (i + 1 + length l) → Below (cond b (At i) p) (i + suc (length l))
+    go true p h = omega arith
+    go false (At j) h = omega arith
+    go false Nowhere h = tt
+
+pub behind-below : (p : Place) (n : ℕ) → Below p n → Below (behind p) (suc n)
+behind-below (At i) n h = omega arith
+behind-below Nowhere n h = tt
+
+pub added-below : (p : Ports) (port : PortId) → length (p .ids) ≡ addedPorts → Below (portPlace p port) addedPorts
+added-below p port e = go (portPlace p port) (place-below (samePort port) 0 (p .ids))
+  where
+    go : (q : Place) → Below q (0 + length (p .ids)) → Below q addedPorts
+    go (At i) h = omega (arith, e)
+    go Nowhere h = tt
+
+pub slot-below : (p : Ports) (own port : PortId) → length (p .ids) ≡ addedPorts → Below (slotOf p own port) slots
+slot-below p own port e = go (assignablePort port) (samePort port own)
+  where
+    go : (a b : Bool) → Below (cond a (behind (portPlace p port)) (cond b (At 0) Nowhere)) slots
+    go true b = behind-below (portPlace p port) addedPorts (added-below p port e)
+    go false true = omega arith
+    go false false = tt
+
+-- what an effect says of its slot is so
+within-slot : (p : Ports) (last : Bool) (n i : ℕ) (waits : Bool) → i < slots → Within p (atSlot i waits (getD (p .lengths) i 0) last n) n
+within-slot p last n i true h = h
+within-slot p last n i false h = go (ltb slotBytes (getD (p .lengths) i 0 + n)) refl last
+  where
+    go : (b : Bool) → ltb slotBytes (getD (p .lengths) i 0 + n) ≡ b → (l : Bool)
+        → Within p (cond b (Discard i (not l)) (cond l (Deliver i (getD (p .lengths) i 0)) (Append i (getD (p .lengths) i 0)))) n
+    go true e l = h
+    go false e true = (h, refl, ltb-false slotBytes (getD (p .lengths) i 0 + n) e)
+    go false e false = (h, refl, ltb-false slotBytes (getD (p .lengths) i 0 + n) e)
+
+pub effect-within : (p : Ports) (own port : PortId) (last : Bool) (n : ℕ) → length (p .ids) ≡ addedPorts → Within p (effectOf p own port last n) n
+effect-within p own port last n e = go (eqb n 0) (slotOf p own port) (slot-below p own port e)
+  where
+    go : (b : Bool) (q : Place) → Below q slots → Within p (cond b Nothing (atPlace p last n q)) n
+    go true q h = tt
+    go false (At i) h = within-slot p last n i (getD (p .waiting) i false) h
+    go false Nowhere h = tt
+
+-- the sum of the partials
+pub total-set : (l : List ℕ) (i v : ℕ) → i < length l → total (set l i v) + getD l i 0 ≡ total l + v
+unfolding total
+total-set [] i v h = absurd (not-suc-le-zero h)
+total-set (x ∷ xs) zero v h = omega arith
+total-set (x ∷ xs) (suc i) v h = omega (arith, total-set xs i v (le-of-suc-le-suc h))
+
+pub one-of-total : (l : List ℕ) (i : ℕ) → getD l i 0 ≤ total l
+unfolding total
+one-of-total [] i = zero-le
+one-of-total (x ∷ xs) zero = omega arith
+one-of-total (x ∷ xs) (suc i) = omega (arith, one-of-total xs i)
+
+pub lengths-set : (l : List ℕ) (i v : ℕ) → v ≤ slotBytes → ((j : ℕ) → getD l j 0 ≤ slotBytes) → (j : ℕ) → getD (set l i v) j 0 ≤ slotBytes
+lengths-set [] i v h k j = k j
+lengths-set (x ∷ xs) zero v h k zero = h
+lengths-set (x ∷ xs) zero v h k (suc j) = k (suc j)
+lengths-set (x ∷ xs) (suc i) v h k zero = k zero
+lengths-set (x ∷ xs) (suc i) v h k (suc j) = lengths-set xs i v h (λ m. k (suc m)) j
+
+-- the test of all lengths, one after the other
+pub within-hit : (l : List ℕ) (i : ℕ) → i < length l → slotBytes < getD l i 0 → allWithin (drop i l) ≡ false
+within-hit l i h g = rw (drop-cons l i 0 h, lt-leb (getD l i 0) slotBytes g)
+
+pub within-miss : (l : List ℕ) (i : ℕ) → i < length l → getD l i 0 ≤ slotBytes → allWithin (drop i l) ≡ allWithin (drop (suc i) l)
+within-miss l i h g = rw (drop-cons l i 0 h, le-leb (getD l i 0) slotBytes g)
+
+pub within-end : (l : List ℕ) (i : ℕ) → length l ≤ i → allWithin (drop i l) ≡ true
+within-end l i h = rw (drop-of-length-le l h)
+
+pub each-within : (l : List ℕ) → allWithin l ≡ true → (i : ℕ) → getD l i 0 ≤ slotBytes
+each-within [] e i = zero-le
+each-within (n ∷ l) e zero = leb-true n slotBytes (and-left (leb n slotBytes) (allWithin l) e)
+each-within (n ∷ l) e (suc i) = each-within l (and-right (leb n slotBytes) (allWithin l) e) i
+
+pub total-le : (l : List ℕ) → ((i : ℕ) → getD l i 0 ≤ slotBytes) → total l ≤ length l * slotBytes
+unfolding total
+total-le [] h = zero-le
+total-le (n ∷ l) h = omega (arith, h 0, total-le l (λ i. h (suc i)))

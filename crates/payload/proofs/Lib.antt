@@ -1,0 +1,6 @@
+pub mod Put
+pub mod Effects
+pub mod Steps
+pub mod Reading
+pub mod Walks
+pub mod Fit

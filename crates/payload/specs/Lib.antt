@@ -1,0 +1,6 @@
+pub mod Fragments
+pub mod Frames
+pub mod Memory
+pub mod Walk
+pub mod Bounds
+pub mod Inside

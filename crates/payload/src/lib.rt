@@ -1,0 +1,9 @@
+// The payload of a downstream frame (clauses 9.1 to 9.3): XGEM frames are walked, fragments put together, SDUs delivered.
+mod fragments;
+mod frames;
+mod memory;
+mod walk;
+
+pub use walk::Delineation;
+pub use walk::Received;
+pub use walk::receive;

@@ -1,0 +1,95 @@
+// One XGEM frame at work: on the ports, the port memory and the deliveries.
+ghost use mathlib.Core.Path.{_≡_};
+ghost use mathlib.Core.List.{_++_};
+ghost use Prim.Native.Nat.{ℕ, _+_, _≤_};
+ghost use lib.ListN.{length};
+ghost use Rattle.payload.specs.Memory.{put, delivery, taken};
+ghost use Rattle.payload.specs.Bounds.{Ready};
+use super::fragments;
+use super::fragments::Effect;
+use super::fragments::SLOT_BYTES;
+use ids::PortId;
+use station::slots::Ports;
+
+// How far the walk is, beside the two lent buffers.
+pub struct Progress {
+    pub ports: Ports,
+    pub bytes: usize,
+}
+
+// All of a slice into a place of another: its end from there is lent on.
+fn lay_at(target: &mut [u8], at: usize, s: &[u8])
+    requires { ⌜ at + length (now s) ≤ length (now target) ⌝ }
+    ensures { λ _. ⌜ now (target .exit) ≡ put (now (target .entry)) at (now (s .entry)) ⌝ }
+{
+    bytes::copy(s, &mut target[at..]);
+}
+
+// A delivery at a place: Port-ID, length, the bytes of the partial and those of the last fragment.
+fn deliver(target: &mut [u8], at: usize, port: PortId, part: &[u8], body: &[u8])
+    requires { ⌜ at + (4 + (length (now part) + length (now body))) ≤ length (now target) ⌝ }
+    requires { ⌜ length (now part) + length (now body) ≤ 2048 ⌝ }
+    ensures { λ _. ⌜ now (target .exit) ≡ put (now (target .entry)) at (delivery port (now (part .entry) ++ now (body .entry))) ⌝ }
+{
+    let n = part.len() + body.len();
+    let head = [
+        (port.0 / 256 % 256) as u8,
+        (port.0 / 1 % 256) as u8,
+        (n / 256 % 256) as u8,
+        (n / 1 % 256) as u8,
+    ];
+    lay_at(target, at, &head);
+    let b = at + 4;
+    lay_at(target, b, part);
+    let c = b + part.len();
+    lay_at(target, c, body);
+}
+
+pub(crate) fn take_frame(
+    own: PortId,
+    p: Progress,
+    memory: &mut [u8],
+    deliveries: &mut [u8],
+    port: PortId,
+    last: bool,
+    body: &[u8],
+) -> Progress
+    requires { ⌜ Ready (record { ports = p .ports; bytes = p .bytes; memory = now memory; deliveries = now deliveries }) (4 + length (now body)) ⌝ }
+    requires { ⌜ length (now body) ≤ 16383 ⌝ }
+    ensures { λ r. ⌜ record { ports = r .ports; bytes = r .bytes; memory = now (memory .exit); deliveries = now (deliveries .exit) } ≡ taken own (record { ports = p .ports; bytes = p .bytes; memory = now (memory .entry); deliveries = now (deliveries .entry) }) port last (now (body .entry)) ⌝ }
+{
+    let n = body.len();
+    let bytes = p.bytes;
+    let ports = p.ports;
+    let effect = fragments::effect_of(ports, own, port, last, n);
+    let next = fragments::moved(ports, effect, n);
+    match effect {
+        Effect::Nothing => Progress {
+            ports: next,
+            bytes: bytes,
+        },
+        Effect::Discard(_, _) => Progress {
+            ports: next,
+            bytes: bytes,
+        },
+        Effect::Deliver(slot, have) => {
+            let from = slot * SLOT_BYTES;
+            let to = from + have;
+            deliver(deliveries, bytes, port, &memory[from..to], body);
+            Progress {
+                ports: next,
+                bytes: bytes + (4 + (have + n)),
+            }
+        }
+        Effect::Append(slot, have) => {
+            let from = slot * SLOT_BYTES + have;
+            let to = slot * SLOT_BYTES + SLOT_BYTES;
+            // The slot's unused end, and nothing behind it, is lent for the append.
+            bytes::copy(body, &mut memory[from..to]);
+            Progress {
+                ports: next,
+                bytes: bytes,
+            }
+        }
+    }
+}
