@@ -4,3 +4,4 @@ pub mod Steps
 pub mod Reading
 pub mod Walks
 pub mod Fit
+pub mod Stretches

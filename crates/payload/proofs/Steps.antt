@@ -76,7 +76,7 @@ space-done p (Discard i b) bytes n m s w = omega (arith, total-set (p .lengths) 
 space-done p (Deliver i have) bytes n m s w = omega (arith, w .1, total-set (p .lengths) i 0 (omega (arith, s)))
 space-done p (Append i have) bytes n m s w = omega (arith, w .1, total-set (p .lengths) i (have + n) (omega (arith, s)))
 
-ids-after : (p : Ports) (e : Effect) (n : ℕ) → after p e n .ids ≡ p .ids
+pub ids-after : (p : Ports) (e : Effect) (n : ℕ) → after p e n .ids ≡ p .ids
 ids-after p Nothing n = refl
 ids-after p (Discard i b) n = refl
 ids-after p (Deliver i have) n = refl

@@ -77,11 +77,11 @@ parse-onward place s = go (length s) refl
         (λ at m l. parse-same n (length (drop (8 + m) s)) at (drop (8 + m) s) (simp length-drop (omega arith)) (le-refl _))
 
 module _ (place : ℕ) (s : List ℕ) where
-  parse-done : nextOf s ≡ Done → parse place s ≡ ended false
+  pub parse-done : nextOf s ≡ Done → parse place s ≡ ended false
   unfolding onward
   parse-done e = parse-onward place s ∙ rw e
 
-  parse-lost : nextOf s ≡ Lost → parse place s ≡ ended true
+  pub parse-lost : nextOf s ≡ Lost → parse place s ≡ ended true
   unfolding onward
   parse-lost e = parse-onward place s ∙ rw e
 

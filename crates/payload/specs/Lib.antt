@@ -2,5 +2,6 @@ pub mod Fragments
 pub mod Frames
 pub mod Memory
 pub mod Walk
+pub mod Stretch
 pub mod Bounds
 pub mod Inside

@@ -1,0 +1,129 @@
+// An unfragmented SDU as its own stretch of the payload. The search decides as the walk does, and touches no memory.
+ghost use mathlib.Core.Path.{_≡_};
+ghost use Rattle.payload.specs.Stretch.{noExtent, sought, settled, stretchOf, cutOut};
+use super::fragments;
+use super::fragments::Effect;
+use super::frames;
+use super::frames::Next;
+use ids::PortId;
+use station::slots::Ports;
+
+// So many bytes from a place of the payload.
+pub struct Extent {
+    pub at: usize,
+    pub bytes: usize,
+}
+
+pub struct StretchPlace {
+    pub stretch: Extent,
+    // answer 6, wherever delineation is lost, also behind the delivery
+    pub lost: bool,
+}
+
+pub enum Seek {
+    // so many deliveries are to be passed over
+    Ahead(usize),
+    Found(Extent),
+}
+
+fn none() -> Extent
+    ensures { λ r. ⌜ r ≡ noExtent ⌝ }
+{
+    Extent { at: 0, bytes: 0 }
+}
+
+fn delivered(left: usize, have: usize, at: usize, n: usize) -> Seek
+    ensures { λ r. ⌜ r ≡ sought (Seek.Ahead left) (Effect.Deliver 0 have) at n ⌝ }
+{
+    if left == 0 {
+        if have == 0 {
+            Seek::Found(Extent { at: at, bytes: n })
+        } else {
+            Seek::Found(none())
+        }
+    } else {
+        Seek::Ahead(left - 1)
+    }
+}
+
+fn seek_on(seek: Seek, effect: Effect, at: usize, n: usize) -> Seek
+    ensures { λ r. ⌜ r ≡ sought seek effect at n ⌝ }
+{
+    match seek {
+        Seek::Found(_) => seek,
+        Seek::Ahead(left) => match effect {
+            Effect::Nothing => seek,
+            Effect::Discard(_, _) => seek,
+            Effect::Deliver(_, have) => delivered(left, have, at, n),
+            Effect::Append(_, _) => seek,
+        },
+    }
+}
+
+fn settle(seek: Seek, lost: bool) -> StretchPlace
+    ensures { λ r. ⌜ r ≡ record { stretch = settled seek; lost = lost } ⌝ }
+{
+    match seek {
+        Seek::Found(t) => StretchPlace {
+            stretch: t,
+            lost: lost,
+        },
+        Seek::Ahead(_) => {
+            let t = none();
+            StretchPlace {
+                stretch: t,
+                lost: lost,
+            }
+        }
+    }
+}
+
+// The stretch of delivery k, counted from 0, by its place in the payload: the empty one where the SDU came in several
+// fragments or there is no such delivery.
+pub fn stretch_place(ports: Ports, own: PortId, payload: &[u8], k: usize) -> StretchPlace
+    ensures { λ r. ⌜ r ≡ stretchOf own ports (now (payload .entry)) k ⌝ }
+{
+    let syndromes = hec::syndromes::table();
+    let remainders = hec::remainders::table();
+    let flips = hec::flips::table();
+    let mut held = ports;
+    let mut seek = Seek::Ahead(k);
+    let mut at: usize = 0;
+    loop {
+        let next = frames::next_frame(&syndromes, &remainders, &flips, &payload[at..]);
+        match next {
+            Next::Done => {
+                return settle(seek, false);
+            }
+            Next::Lost => {
+                return settle(seek, true);
+            }
+            Next::Frame(x) => {
+                let body = at + 8;
+                let n = x.pli as usize;
+                let port = x.port;
+                let effect = fragments::effect_of(held, own, port, x.last, n);
+                seek = seek_on(seek, effect, body, n);
+                held = fragments::moved(held, effect, n);
+                at = body + framing::xgem::payload_size(x.pli);
+            }
+        }
+    }
+}
+
+// The stretch itself: exactly that part of the caller's slice, or the empty one where it does not lie within.
+pub fn stretch(s: &[u8], t: Extent) -> &[u8]
+    ensures { λ r. ⌜ now r ≡ cutOut (now (s .entry)) t ⌝ }
+{
+    let at = t.at;
+    let bytes = t.bytes;
+    if at <= s.len() {
+        if bytes <= s.len() - at {
+            &s[at..at + bytes]
+        } else {
+            &s[..0]
+        }
+    } else {
+        &s[..0]
+    }
+}
