@@ -5,3 +5,5 @@ pub mod Reading
 pub mod Walks
 pub mod Fit
 pub mod Stretches
+pub mod Isolation
+pub mod OwnStretch

@@ -11,7 +11,8 @@ use Rattle.station.specs.declared.slots.Ports.{Ports}
 use Rattle.station.specs.declared.held.Place.{Place}
 use Rattle.station.specs.declared.held.Place.the-variants.{At, Nowhere}
 use Rattle.station.specs.Limits.{slotBytes}
-use Rattle.station.specs.Slots.{dropOne, portPlace}
+use Rattle.station.specs.Lists.{placeFrom}
+use Rattle.station.specs.Slots.{dropOne}
 use Rattle.payload.specs.declared.fragments.Effect.{Effect}
 use Rattle.payload.specs.declared.fragments.Effect.the-variants.{Nothing, Discard, Deliver, Append}
 
@@ -20,9 +21,12 @@ abbrev pub behind : Place → Place
 behind (At i) = At (i + 1)
 behind Nowhere = Nowhere
 
+abbrev pub slotIn : List PortId → PortId → PortId → Place
+slotIn ids own port =
+    cond (assignablePort port) (behind (placeFrom (samePort port) 0 ids)) (cond (samePort port own) (At 0) Nowhere)
+
 abbrev pub slotOf : Ports → PortId → PortId → Place
-slotOf p own port =
-    cond (assignablePort port) (behind (portPlace p port)) (cond (samePort port own) (At 0) Nowhere)
+slotOf p own port = slotIn (p .ids) own port
 
 -- what n bytes do at a slot. "A waiting port discards up to and with the next LF 1." "A total over 2,048 drops the partial;
 -- after LF 0 the port then waits." "LF 0 adds to the port's slot. LF 1 delivers"

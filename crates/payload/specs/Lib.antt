@@ -5,3 +5,4 @@ pub mod Walk
 pub mod Stretch
 pub mod Bounds
 pub mod Inside
+pub mod Alike

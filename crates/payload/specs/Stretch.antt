@@ -15,6 +15,7 @@ use Rattle.payload.specs.declared.alone.Seek.the-variants.{Ahead, Found}
 use Rattle.payload.specs.declared.alone.StretchPlace.{StretchPlace}
 use Rattle.payload.specs.Fragments.{effectOf, after}
 use Rattle.payload.specs.Frames.{Xgem, Parsed, parse}
+use Rattle.payload.specs.Memory.{Receiver, partial, step}
 
 -- the empty stretch
 abbrev pub noExtent : Extent
@@ -57,3 +58,15 @@ sought (Ahead left) (Append slot have) at n = Ahead left
 abbrev pub settled : Seek → Extent
 settled (Found t) = t
 settled (Ahead left) = noExtent
+
+-- the SDUs that the frames deliver, in order
+abbrev pub sduOf : List ℕ → Effect → List ℕ → List (List ℕ)
+sduOf memory Nothing body = []
+sduOf memory (Discard slot waits) body = []
+sduOf memory (Deliver slot have) body = (partial memory slot have ++ body) ∷ []
+sduOf memory (Append slot have) body = []
+
+unfoldable pub sdus : PortId → Receiver → List Xgem → List (List ℕ)
+sdus own s [] = []
+sdus own s (x ∷ rest) =
+    sduOf (s .memory) (effectOf (s .ports) own (x .port) (x .last) (length (x .body))) (x .body) ++ sdus own (step own s x) rest

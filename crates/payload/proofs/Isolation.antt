@@ -1,0 +1,67 @@
+-- Payloads that differ only in payload bytes of ports that are not ours leave the same: ports, memory, deliveries, answer.
+-- Assumes nothing.
+use mathlib.Core.Path.{_≡_, refl, sym, ap, ap₂, _∙_}
+use mathlib.Core.Logic.{_⊎_, inl, inr}
+use mathlib.Core.Bool.{Bool, true, false, cond}
+use mathlib.Core.List.{List}
+use Prim.Native.Nat.{ℕ, _+_, _≤_}
+use lib.Dec.{eqb, leb}
+use lib.ListN.{length, take, drop}
+use Rattle.ids.specs.declared.PortId.{PortId}
+use Rattle.hec.specs.Reads.{reading}
+use Rattle.framing.specs.declared.xgem.XgemHeader.{XgemHeader}
+use Rattle.framing.specs.Octets.{value}
+use Rattle.framing.specs.Layouts.{xgemOf, payloadSize}
+use Rattle.framing.specs.Reads.{Found, taken as taken-fields, short, readXgem}
+use Rattle.station.specs.declared.held.Place.{Place}
+use Rattle.station.specs.declared.held.Place.the-variants.{Nowhere}
+use Rattle.station.specs.declared.slots.Ports.{Ports}
+use Rattle.payload.specs.declared.fragments.Effect.{Effect}
+use Rattle.payload.specs.declared.fragments.Effect.the-variants.{Nothing}
+use Rattle.payload.specs.declared.frames.Next.the-variants.{Frame}
+use Rattle.payload.specs.Fragments.{slotIn, slotOf, atPlace, effectOf, after}
+use Rattle.payload.specs.Frames.{ahead, nextOf}
+use Rattle.payload.specs.Memory.{Receiver, taken, done, memoryAfter, deliveriesAfter, bytesAfter}
+use Rattle.payload.specs.Walk.{walkOf}
+use Rattle.payload.specs.Alike.{Alike, equal, past}
+use Rattle.payload.proofs.Steps.{ids-after}
+use Rattle.payload.proofs.Walks.{walk-next}
+
+-- a frame whose port has no slot does nothing
+no-effect : (p : Ports) (own port : PortId) (last : Bool) (n : ℕ) → slotOf p own port ≡ Nowhere → effectOf p own port last n ≡ Nothing
+no-effect p own port last n h = ap (λ (q : Place). cond (eqb n 0) Nothing (atPlace p last n q)) h ∙ go (eqb n 0)
+  where
+    go : (b : Bool) → cond b Nothing Nothing ≡ Nothing
+    go true = refl
+    go false = refl
+
+foreign : (own : PortId) (s : Receiver) (port : PortId) (last : Bool) (body : List ℕ) → slotOf (s .ports) own port ≡ Nowhere → taken own s port last body ≡ s
+unfolding taken done memoryAfter deliveriesAfter bytesAfter
+foreign own s port last body h = ap (λ (e : Effect). done s e port body) (no-effect (s .ports) own port last (length body) h)
+
+-- no frame changes which ports are ours
+same-ids : (own : PortId) (s : Receiver) (port : PortId) (last : Bool) (body : List ℕ) → taken own s port last body .ports .ids ≡ s .ports .ids
+unfolding taken done
+same-ids own s port last body = ids-after (s .ports) (effectOf (s .ports) own port last (length body)) (length body)
+
+-- a header stands in the first eight bytes
+next-same : (s t : List ℕ) → take 8 s ≡ take 8 t → length s ≡ length t → nextOf s ≡ nextOf t
+next-same s t e l =
+    ap₂ (λ (h : List ℕ) (n : ℕ). ahead (cond (leb 8 n) (taken-fields xgemOf (reading 64 (value h))) short) n) e l
+
+-- the two frames do the same
+same-taken : (own : PortId) (s : Receiver) (port : PortId) (last : Bool) (a b : List ℕ) → (slotOf (s .ports) own port ≡ Nowhere) ⊎ (a ≡ b)
+    → taken own s port last a ≡ taken own s port last b
+same-taken own s port last a b (inl h) = foreign own s port last a h ∙ sym (foreign own s port last b h)
+same-taken own s port last a b (inr e) = ap (taken own s port last) e
+
+pub isolated : {own : PortId} {ids : List PortId} {a b : List ℕ} → Alike own ids a b → (place : ℕ) (s : Receiver) → s .ports .ids ≡ ids
+    → walkOf own s place a ≡ walkOf own s place b
+isolated equal place s i = refl
+isolated {own} {ids} (past {s = a} {t = b} x e t l d r) place s i =
+    let s′ : Receiver = taken own s (x .port) (x .last) (take (x .pli) (drop 8 a)) in
+    walk-next own s place a x e
+    ∙ isolated r (place + (8 + payloadSize (x .pli))) s′ (same-ids own s (x .port) (x .last) (take (x .pli) (drop 8 a)) ∙ i)
+    ∙ ap (λ (z : Receiver). walkOf own z (place + (8 + payloadSize (x .pli))) (drop (8 + payloadSize (x .pli)) b))
+    (same-taken own s (x .port) (x .last) (take (x .pli) (drop 8 a)) (take (x .pli) (drop 8 b)) (rw i d))
+    ∙ sym (walk-next own s place b x (sym (next-same a b t l) ∙ e))

@@ -1,0 +1,22 @@
+-- Two payloads that differ only in payload bytes of ports that are not ours: of the idle port, and of foreign ones.
+-- Assumes nothing.
+use mathlib.Core.Path.{_≡_}
+use mathlib.Core.Logic.{_⊎_}
+use mathlib.Core.List.{List}
+use Prim.Native.Nat.{ℕ, _+_}
+use lib.ListN.{length, take, drop}
+use Rattle.ids.specs.declared.PortId.{PortId}
+use Rattle.framing.specs.declared.xgem.XgemHeader.{XgemHeader}
+use Rattle.framing.specs.Layouts.{payloadSize}
+use Rattle.station.specs.declared.held.Place.the-variants.{Nowhere}
+use Rattle.payload.specs.declared.frames.Next.the-variants.{Frame}
+use Rattle.payload.specs.Fragments.{slotIn}
+use Rattle.payload.specs.Frames.{nextOf}
+
+-- equal; or the same header and as many bytes, then a frame whose port has no slot or whose bytes are equal, and alike again
+-- behind it
+pub data Alike (own : PortId) (ids : List PortId) : List ℕ → List ℕ → Type 0 where
+  equal : {s : List ℕ} → Alike own ids s s
+  past : {s t : List ℕ} (x : XgemHeader) → nextOf s ≡ Frame x → take 8 s ≡ take 8 t → length s ≡ length t
+      → (slotIn ids own (x .port) ≡ Nowhere) ⊎ (take (x .pli) (drop 8 s) ≡ take (x .pli) (drop 8 t))
+      → Alike own ids (drop (8 + payloadSize (x .pli)) s) (drop (8 + payloadSize (x .pli)) t) → Alike own ids s t
