@@ -53,7 +53,7 @@ module _ {X : Type 0} (n : ℕ) (small : n ≤ 8) (of : ℕ → X) (s : List ℕ
       ∙ ap (λ (m : ℕ). take n s ++ drop m s) (length-take-le n s whole) ∙ take-append-drop n s
 
 -- the octets of a number, at the start of a target
-octets-bytes : (n v : ℕ) → Bytes (octets n v)
+pub octets-bytes : (n v : ℕ) → Bytes (octets n v)
 octets-bytes zero v = tt
 octets-bytes (suc n) v = (omega arith, octets-bytes n v)
 

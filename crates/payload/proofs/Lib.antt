@@ -7,3 +7,6 @@ pub mod Fit
 pub mod Stretches
 pub mod Isolation
 pub mod OwnStretch
+pub mod Counts
+pub mod Reassembly
+pub mod Determined

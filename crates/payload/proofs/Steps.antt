@@ -47,11 +47,11 @@ stepped own s port last body e p b m d ee ep eb em ed =
     λ k. record { ports = ep k; bytes = eb k; memory = em k; deliveries = ed k } in
     made ∙ ap (λ (z : Effect). done s z port body) ee
 
-length-partial : (memory : List ℕ) (i have : ℕ) → i * slotBytes + have ≤ length memory → length (partial memory i have) ≡ have
+pub length-partial : (memory : List ℕ) (i have : ℕ) → i * slotBytes + have ≤ length memory → length (partial memory i have) ≡ have
 unfolding partial
 length-partial memory i have h = length-take-le have (drop (i * slotBytes) memory) (simp length-drop (omega arith))
 
-length-delivery : (port : PortId) (sdu : List ℕ) → length (delivery port sdu) ≡ 4 + length sdu
+pub length-delivery : (port : PortId) (sdu : List ℕ) → length (delivery port sdu) ≡ 4 + length sdu
 unfolding delivery
 length-delivery port sdu = omega arith
 

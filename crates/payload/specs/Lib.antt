@@ -6,3 +6,4 @@ pub mod Stretch
 pub mod Bounds
 pub mod Inside
 pub mod Alike
+pub mod Deliveries

@@ -48,7 +48,8 @@ fn at_slot(slot: usize, waits: bool, have: usize, last: bool, n: usize) -> Effec
         return Effect::Discard(slot, !last);
     }
     if SLOT_BYTES < have + n {
-        return Effect::Discard(slot, !last);
+        let then_waits = !last;
+        return Effect::Discard(slot, then_waits);
     }
     if last {
         return Effect::Deliver(slot, have);

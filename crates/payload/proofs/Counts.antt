@@ -1,0 +1,74 @@
+-- The count of delivery bytes is true: what stands in the deliveries is what the frames deliver, in order, from where the
+-- count began, and nothing else has changed.
+-- Assumes nothing.
+use mathlib.Core.Path.{_≡_, refl, sym, ap, ap₂, _∙_}
+use mathlib.Core.List.{List, [], _∷_, _++_}
+use Prim.Native.Nat.{ℕ, zero, suc, _+_, _-_, _*_, _≤_, _<_}
+use native.Mathlib.Nat.{add-zero, add-assoc}
+use native.Mathlib.Omega.{arith}
+use lib.ListN.{length, take, drop, length-append, length-drop, take-append-drop}
+use lib.Seq.{length-take-le}
+use Rattle.ids.specs.declared.PortId.{PortId}
+use Rattle.framing.proofs.Numbers.{octets-length}
+use Rattle.station.specs.Limits.{slots, slotBytes}
+use Rattle.payload.specs.declared.fragments.Effect.{Effect}
+use Rattle.payload.specs.declared.fragments.Effect.the-variants.{Nothing, Discard, Deliver, Append}
+use Rattle.payload.specs.Fragments.{effectOf, after}
+use Rattle.payload.specs.Frames.{Xgem}
+use Rattle.payload.specs.Memory.{Receiver, put, delivery, partial, memoryAfter, deliveriesAfter, bytesAfter, done, taken, step}
+use Rattle.payload.specs.Bounds.{Within, Ready}
+use Rattle.payload.specs.Walk.{steps}
+use Rattle.payload.specs.Deliveries.{deliveryOf, deliveriesOf}
+use Rattle.payload.proofs.Put.{put-put}
+use Rattle.payload.proofs.Effects.{effect-within}
+use Rattle.payload.proofs.Steps.{ready-less, ready-step, length-partial, length-delivery}
+
+put-nothing : (d : List ℕ) (at : ℕ) → put d at [] ≡ d
+unfolding put
+put-nothing d at = ap (λ (n : ℕ). take at d ++ drop n d) (add-zero at) ∙ take-append-drop at d
+
+-- what one frame adds
+added : (s : Receiver) (e : Effect) (port : PortId) (body : List ℕ) → Ready s (4 + length body) → Within (s .ports) e (length body)
+    → (deliveriesAfter (s .deliveries) (s .bytes) (s .memory) e port body ≡ put (s .deliveries) (s .bytes) (deliveryOf (s .memory) e port body))
+    × (bytesAfter (s .bytes) e (length body) ≡ s .bytes + length (deliveryOf (s .memory) e port body))
+unfolding deliveriesAfter bytesAfter
+added s Nothing port body r w = (sym (put-nothing (s .deliveries) (s .bytes)), sym (add-zero (s .bytes)))
+added s (Discard i b) port body r w = (sym (put-nothing (s .deliveries) (s .bytes)), sym (add-zero (s .bytes)))
+added s (Deliver i have) port body r w =
+    let l : length (partial (s .memory) i have) ≡ have = length-partial (s .memory) i have (omega (arith, w .0, w .2, r .memory)) in
+    let sdu : List ℕ = partial (s .memory) i have ++ body in
+    (refl, ap (λ (n : ℕ). s .bytes + n) (sym (length-delivery port sdu ∙ ap (λ (n : ℕ). 4 + n) (length-append (partial (s .memory) i have) body ∙ ap (λ (n : ℕ). n + length body) l))))
+added s (Append i have) port body r w = (sym (put-nothing (s .deliveries) (s .bytes)), sym (add-zero (s .bytes)))
+
+-- the room that frames ask for
+unfoldable pub asked : List Xgem → ℕ
+asked [] = 0
+asked (x ∷ rest) = asked rest + (4 + length (x .body))
+
+pub counts-true : (own : PortId) (s : Receiver) (frames : List Xgem) → Ready s (asked frames)
+    → (steps own s frames .deliveries ≡ put (s .deliveries) (s .bytes) (deliveriesOf own s frames)) × (steps own s frames .bytes ≡ s .bytes + length (deliveriesOf own s frames))
+unfolding steps deliveriesOf asked taken done
+counts-true own s [] r = (sym (put-nothing (s .deliveries) (s .bytes)), sym (add-zero (s .bytes)))
+counts-true own s (x ∷ rest) r =
+    join (added s e (x .port) (x .body) now-ready (effect-within (s .ports) own (x .port) (x .last) (length (x .body)) (r .ids)))
+    (counts-true own (step own s x) rest (ready-step own s (x .port) (x .last) (x .body) (asked rest) r))
+  where
+    e : Effect
+    e = effectOf (s .ports) own (x .port) (x .last) (length (x .body))
+
+    now-ready : Ready s (4 + length (x .body))
+    now-ready = ready-less s (asked rest + (4 + length (x .body))) (4 + length (x .body)) r (omega arith)
+
+    one : List ℕ
+    one = deliveryOf (s .memory) e (x .port) (x .body)
+
+    more : List ℕ
+    more = deliveriesOf own (step own s x) rest
+
+    join : (deliveriesAfter (s .deliveries) (s .bytes) (s .memory) e (x .port) (x .body) ≡ put (s .deliveries) (s .bytes) one) × (bytesAfter (s .bytes) e (length (x .body)) ≡ s .bytes + length one)
+        → (steps own (step own s x) rest .deliveries ≡ put (step own s x .deliveries) (step own s x .bytes) more) × (steps own (step own s x) rest .bytes ≡ step own s x .bytes + length more)
+        → (steps own (step own s x) rest .deliveries ≡ put (s .deliveries) (s .bytes) (one ++ more)) × (steps own (step own s x) rest .bytes ≡ s .bytes + length (one ++ more))
+    join (d, b) (ds, bs) = (
+      ds ∙ ap₂ (λ (l : List ℕ) (n : ℕ). put l n more) d b ∙ put-put (s .deliveries) (s .bytes) one more (s .bytes + length one) refl (omega (arith, r .space)),
+      bs ∙ ap (λ (n : ℕ). n + length more) b ∙ add-assoc (s .bytes) (length one) (length more) ∙ ap (λ (n : ℕ). s .bytes + n) (sym (length-append one more)),
+    )
