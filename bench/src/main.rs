@@ -4,6 +4,7 @@
 //!     bench           compare, then print nanoseconds an operation and the ratio of ours to the peer's
 
 mod headers;
+mod payload;
 
 use std::hint::black_box;
 use std::time::Instant;
@@ -50,5 +51,6 @@ fn main() {
         println!("{:<36} {:>9} {:>9} {:>7}", "ns an operation", "peer", "ours", "ratio");
     }
     headers::run(!check);
+    payload::run(!check);
     black_box(());
 }

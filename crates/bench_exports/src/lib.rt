@@ -1,4 +1,6 @@
 // What bench/ calls from Rust: loops over the library's functions, long enough to be timed.
+mod payload_walk;
+
 use hec::Reading32;
 use hec::Reading64;
 ghost use mathlib.Core.Path.{_≡_};
