@@ -1,10 +1,32 @@
 // The messages of the PLOAM channel (G.987.3, clauses 11 and 15.6): 48 octets, read, checked and written.
+pub mod integrity;
 pub mod reading;
 
-use ids::{AllocId, OnuId};
+use ids::AllocId;
+use ids::OnuId;
 
 // A message, and the part of it that the integrity field covers.
 const MESSAGE_OCTETS: usize = 48;
+
+const COVERED_OCTETS: usize = 40;
+
+// Types of Table 11-2 (downstream) that the choice of a key looks at.
+const DEACTIVATE_ONU_ID: u8 = 0x05;
+
+const REQUEST_REGISTRATION: u8 = 0x09;
+
+// Types of Table 11-3 (upstream).
+const SERIAL_NUMBER_ONU: u8 = 0x01;
+
+const REGISTRATION: u8 = 0x02;
+
+const ACKNOWLEDGEMENT: u8 = 0x09;
+
+// Which way a message goes: it is a part of what the integrity field covers.
+pub enum Direction {
+    Downstream,
+    Upstream,
+}
 
 // Vendor-ID and vendor-specific serial number.
 pub struct SerialNumber {
