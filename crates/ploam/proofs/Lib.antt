@@ -1,3 +1,4 @@
 pub mod Types
 pub mod Same
 pub mod Keys
+pub mod Laid

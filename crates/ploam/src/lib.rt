@@ -1,6 +1,7 @@
 // The messages of the PLOAM channel (G.987.3, clauses 11 and 15.6): 48 octets, read, checked and written.
 pub mod integrity;
 pub mod reading;
+pub mod writing;
 
 use ids::AllocId;
 use ids::OnuId;
@@ -81,4 +82,28 @@ pub struct Message {
 pub enum Received {
     Whole(Message),
     Short,
+}
+
+// The completion codes of Acknowledgement (11.3.4.4).
+pub enum Completion {
+    Ok,
+    NoMessage,
+    Busy,
+    UnknownType,
+    ParameterError,
+    ProcessingError,
+}
+
+// What a station says: Serial_Number_ONU with its random delay; Registration and Acknowledgement with the sender's
+// ONU-ID and the SeqNo of the request, or 0. The Registration ID, an array, goes beside it.
+pub enum UpstreamMessage {
+    SerialNumberOnu(SerialNumber, u32),
+    Registration(OnuId, u8),
+    Acknowledgement(OnuId, u8, Completion),
+}
+
+// Unfit is answer 11: a value too wide for its field, or a target too short.
+pub enum Written {
+    Done,
+    Unfit,
 }
