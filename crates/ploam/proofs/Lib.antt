@@ -2,3 +2,4 @@ pub mod Types
 pub mod Same
 pub mod Keys
 pub mod Laid
+pub mod RoundTrip

@@ -107,3 +107,10 @@ pub enum Written {
     Done,
     Unfit,
 }
+
+// What was read of an upstream message; a type or a completion code that is none of these is Other.
+pub enum Heard {
+    Said(UpstreamMessage),
+    Other,
+    Unheard,
+}
