@@ -9,11 +9,11 @@ use lib.ListN.{getD}
 use Rattle.aes.specs.Field.{sBox, xtime}
 use Rattle.aes.specs.Cipher.{at, mixed, shiftRows, subBytes, addRoundKey, roundOf, lastOf, nextKey, rcon, roundKey, rounds, aes128}
 use Rattle.aes.specs.Words.{joined, octet0, octet1, octet2, octet3, octetsOf, added, noWords, Four}
-use Rattle.aes.specs.ByTable.{mixOf, turned, entryOf, columnBy, roundBy, subBy, lastColumnBy, lastBy, turnedWordBy, nextKeyBy, roundKeyBy, roundKeysBy, roundsBy, cipherBy}
+use Rattle.aes.specs.ByTable.{mixOf, turned, entryOf, columnBy, roundBy, subBy, lastColumnBy, lastBy, turnedWordBy, nextKeyBy, roundKeyBy, roundKeysBy, firstRoundsBy, cipherBy}
 use Rattle.aes.specs.MixTable.{mixTable}
 use Rattle.aes.specs.declared.Words.{Words}
 use Rattle.aes.proofs.Bytes.{entry-rule, sBox-byte, xtime-byte, rcon-byte}
-use Rattle.aes.proofs.Octets.{xor-byte, xor0, xor1, xor2, xor3, turned-joined, four, sixteen, added-octets, getD-tabulate}
+use Rattle.aes.proofs.Octets.{xor-byte, xor0, xor1, xor2, xor3, turned-joined, four, sixteen, added-octets}
 use Rattle.aes.proofs.Xor.{xor-assoc}
 
 -- the rows in the order of the table's entries, and in that of 5.1.3 from row r on
@@ -182,32 +182,31 @@ round-key-is k (suc i) =
     next-key-is (roundKeyBy mixTable k i) (rcon i) (rcon-byte i)
     ∙ ap (λ (l : List ℕ). nextKey l (rcon i)) (round-key-is k i)
 
-key-at : (k : Words) (i : ℕ) → i < 11 → octetsOf (getD (roundKeysBy mixTable k) i noWords) ≡ roundKey i (octetsOf k)
-unfolding roundKeysBy
-key-at k i l = ap octetsOf (getD-tabulate 11 (roundKeyBy mixTable k) i noWords l) ∙ round-key-is k i
-
-rounds-are : (k s : Words) (i : ℕ) → i < 11
-    → octetsOf (roundsBy mixTable (roundKeysBy mixTable k) i s) ≡ rounds i (octetsOf k) (octetsOf s)
-unfolding roundsBy rounds
-rounds-are k s zero l = refl
-rounds-are k s (suc i) l =
-    round-is (roundsBy mixTable (roundKeysBy mixTable k) i s) (getD (roundKeysBy mixTable k) (suc i) noWords)
-    ∙ ap₂ roundOf (rounds-are k s i (omega arith)) (key-at k (suc i) l)
-
-key-zero : (key : List ℕ) → roundKey 0 key ≡ key
-unfolding roundKey
-key-zero key = refl
-
 -- for every key and every block
 pub by-mix-table : (k s : Words)
     → octetsOf (cipherBy mixTable (roundKeysBy mixTable k) s) ≡ aes128 (octetsOf k) (octetsOf s)
-unfolding cipherBy aes128
+unfolding cipherBy firstRoundsBy roundKeysBy aes128 rounds
 by-mix-table k s =
-    let first = getD (roundKeysBy mixTable k) 0 noWords in
-    last-is (roundsBy mixTable (roundKeysBy mixTable k) 9 (added s first)) (getD (roundKeysBy mixTable k) 10 noWords)
-    ∙ ap₂ lastOf
-    (rounds-are k (added s first) 9 (omega arith)
-    ∙ ap (rounds 9 (octetsOf k))
-    (added-octets s first
-    ∙ ap (addRoundKey (octetsOf s)) (key-at k 0 (omega arith) ∙ key-zero (octetsOf k))))
-    (key-at k 10 (omega arith))
+    let t = mixTable in
+    let key = roundKeyBy t k in
+    let s0 = added s k in
+    let s1 = roundBy t s0 (key 1) in
+    let s2 = roundBy t s1 (key 2) in
+    let s3 = roundBy t s2 (key 3) in
+    let s4 = roundBy t s3 (key 4) in
+    let s5 = roundBy t s4 (key 5) in
+    let s6 = roundBy t s5 (key 6) in
+    let s7 = roundBy t s6 (key 7) in
+    let s8 = roundBy t s7 (key 8) in
+    let s9 = roundBy t s8 (key 9) in
+    let e0 = added-octets s k in
+    let e1 = round-is s0 (key 1) ∙ ap₂ roundOf e0 (round-key-is k 1) in
+    let e2 = round-is s1 (key 2) ∙ ap₂ roundOf e1 (round-key-is k 2) in
+    let e3 = round-is s2 (key 3) ∙ ap₂ roundOf e2 (round-key-is k 3) in
+    let e4 = round-is s3 (key 4) ∙ ap₂ roundOf e3 (round-key-is k 4) in
+    let e5 = round-is s4 (key 5) ∙ ap₂ roundOf e4 (round-key-is k 5) in
+    let e6 = round-is s5 (key 6) ∙ ap₂ roundOf e5 (round-key-is k 6) in
+    let e7 = round-is s6 (key 7) ∙ ap₂ roundOf e6 (round-key-is k 7) in
+    let e8 = round-is s7 (key 8) ∙ ap₂ roundOf e7 (round-key-is k 8) in
+    let e9 = round-is s8 (key 9) ∙ ap₂ roundOf e8 (round-key-is k 9) in
+    last-is s9 (key 10) ∙ ap₂ lastOf e9 (round-key-is k 10)

@@ -4,10 +4,10 @@
 use Prim.Native.Nat.{ℕ, zero, suc, _+_, _*_, _/_, _%_}
 use mathlib.Core.List.{List}
 use lib.Bits.{bitXor}
-use lib.ListN.{getD}
 use Rattle.aes.specs.Field.{sBox, xtime}
-use Rattle.aes.specs.Cipher.{at, tabulate, rcon}
-use Rattle.aes.specs.Words.{joined, octet2, added, noWords}
+use Rattle.aes.specs.Cipher.{at, rcon}
+use Rattle.aes.specs.Words.{joined, octet2, added}
+use Rattle.aes.specs.declared.RoundKeys.{RoundKeys}
 use Rattle.aes.specs.declared.Words.{Words}
 
 -- what the table should hold at x: the column that MixColumns makes of the S-box value of x in row 0
@@ -74,13 +74,35 @@ roundKeyBy t k zero = k
 roundKeyBy t k (suc i) = nextKeyBy t (roundKeyBy t k i) (rcon i)
 
 -- all eleven
-unfoldable pub roundKeysBy : List ℕ → Words → List Words
-roundKeysBy t k = tabulate 11 (roundKeyBy t k)
+unfoldable pub roundKeysBy : List ℕ → Words → RoundKeys
+roundKeysBy t k =
+    record {
+      k0 = k;
+      k1 = roundKeyBy t k 1;
+      k2 = roundKeyBy t k 2;
+      k3 = roundKeyBy t k 3;
+      k4 = roundKeyBy t k 4;
+      k5 = roundKeyBy t k 5;
+      k6 = roundKeyBy t k 6;
+      k7 = roundKeyBy t k 7;
+      k8 = roundKeyBy t k 8;
+      k9 = roundKeyBy t k 9;
+      k10 = roundKeyBy t k 10;
+    }
 
--- the state after i rounds from s
-unfoldable pub roundsBy : List ℕ → List Words → ℕ → Words → Words
-roundsBy t ks zero s = s
-roundsBy t ks (suc i) s = roundBy t (roundsBy t ks i s) (getD ks (suc i) noWords)
+-- five rounds, and nine
+unfoldable pub firstRoundsBy : List ℕ → RoundKeys → Words → Words
+firstRoundsBy t ks s =
+    let s1 = roundBy t (added s (ks .k0)) (ks .k1) in
+    let s2 = roundBy t s1 (ks .k2) in
+    let s3 = roundBy t s2 (ks .k3) in
+    let s4 = roundBy t s3 (ks .k4) in
+    roundBy t s4 (ks .k5)
 
-unfoldable pub cipherBy : List ℕ → List Words → Words → Words
-cipherBy t ks s = lastBy t (roundsBy t ks 9 (added s (getD ks 0 noWords))) (getD ks 10 noWords)
+unfoldable pub cipherBy : List ℕ → RoundKeys → Words → Words
+cipherBy t ks s =
+    let s6 = roundBy t (firstRoundsBy t ks s) (ks .k6) in
+    let s7 = roundBy t s6 (ks .k7) in
+    let s8 = roundBy t s7 (ks .k8) in
+    let s9 = roundBy t s8 (ks .k9) in
+    lastBy t s9 (ks .k10)

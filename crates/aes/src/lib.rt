@@ -4,7 +4,7 @@ ghost use mathlib.Core.Path.{_≡_};
 ghost use Rattle.aes.specs.Cipher.{aes128};
 ghost use Rattle.aes.specs.Words.{octetsOf, added, Joined, Loaded};
 ghost use Rattle.aes.specs.ByTable.{turned, entryOf, columnBy, roundBy, subBy, lastColumnBy, lastBy};
-ghost use Rattle.aes.specs.ByTable.{turnedWordBy, nextKeyBy, roundKeysBy, cipherBy};
+ghost use Rattle.aes.specs.ByTable.{turnedWordBy, nextKeyBy, roundKeysBy, firstRoundsBy, cipherBy};
 
 // Entry x is the column 2, 1, 1 and 3 times the S-box value of x.
 pub const MIX: [u32; 256] = [
@@ -274,6 +274,21 @@ pub struct Words {
     pub d: u32,
 }
 
+// The round keys of a key, the key itself first. A struct and no array: an array that is indexed is copied first.
+pub struct RoundKeys {
+    pub k0: Words,
+    pub k1: Words,
+    pub k2: Words,
+    pub k3: Words,
+    pub k4: Words,
+    pub k5: Words,
+    pub k6: Words,
+    pub k7: Words,
+    pub k8: Words,
+    pub k9: Words,
+    pub k10: Words,
+}
+
 fn look(t: &[u32; 256], x: u32) -> u32
     ensures { λ r. ⌜ r ≡ entryOf (now (t .entry)) x ⌝ }
 {
@@ -415,7 +430,7 @@ pub fn store(w: Words) -> [u8; 16]
 }
 
 // The round constants are the powers of x in the field.
-pub fn expand(t: &[u32; 256], key: Words) -> [Words; 11]
+pub fn expand(t: &[u32; 256], key: Words) -> RoundKeys
     ensures { λ r. ⌜ r ≡ roundKeysBy (now (t .entry)) key ⌝ }
 {
     let k1 = next_key(t, key, 1);
@@ -428,20 +443,40 @@ pub fn expand(t: &[u32; 256], key: Words) -> [Words; 11]
     let k8 = next_key(t, k7, 128);
     let k9 = next_key(t, k8, 27);
     let k10 = next_key(t, k9, 54);
-    [key, k1, k2, k3, k4, k5, k6, k7, k8, k9, k10]
+    RoundKeys {
+        k0: key,
+        k1: k1,
+        k2: k2,
+        k3: k3,
+        k4: k4,
+        k5: k5,
+        k6: k6,
+        k7: k7,
+        k8: k8,
+        k9: k9,
+        k10: k10,
+    }
 }
 
-pub fn encipher(t: &[u32; 256], ks: [Words; 11], input: Words) -> Words
+fn first_rounds(t: &[u32; 256], ks: RoundKeys, input: Words) -> Words
+    ensures { λ r. ⌜ r ≡ firstRoundsBy (now (t .entry)) ks input ⌝ }
+{
+    let s1 = round(t, add(input, ks.k0), ks.k1);
+    let s2 = round(t, s1, ks.k2);
+    let s3 = round(t, s2, ks.k3);
+    let s4 = round(t, s3, ks.k4);
+    round(t, s4, ks.k5)
+}
+
+pub fn encipher(t: &[u32; 256], ks: RoundKeys, input: Words) -> Words
     ensures { λ r. ⌜ r ≡ cipherBy (now (t .entry)) ks input ⌝ }
 {
-    let mut s = add(input, ks[0]);
-    let mut i: usize = 0;
-    while i < 9 {
-        let after = round(t, s, ks[i + 1]);
-        s = after;
-        i += 1;
-    }
-    last_round(t, s, ks[10])
+    let s5 = first_rounds(t, ks, input);
+    let s6 = round(t, s5, ks.k6);
+    let s7 = round(t, s6, ks.k7);
+    let s8 = round(t, s7, ks.k8);
+    let s9 = round(t, s8, ks.k9);
+    last_round(t, s9, ks.k10)
 }
 
 pub fn encrypt(key: [u8; 16], input: [u8; 16]) -> [u8; 16]

@@ -1,10 +1,9 @@
 use mathlib.Core.Path.{_∙_, ap, ap₂}
-use mathlib.Core.List.{List}
 use Rattle.aes.specs.Cipher.{aes128}
 use Rattle.aes.specs.Words.{octetsOf}
 use Rattle.aes.specs.ByTable.{cipherBy}
 use Rattle.aes.specs.MixTable.{mixTable}
-use Rattle.aes.specs.declared.Words.{Words}
+use Rattle.aes.specs.declared.RoundKeys.{RoundKeys}
 use Rattle.aes.proofs.Ciphers.{by-mix-table}
 use borrow.Author.Needs.{needs}
 use Rattle.aes.proofs.encrypt.Statement.{statement}
@@ -45,7 +44,7 @@ returns c =
     c .store .ensures
     ∙ ap octetsOf
     (c .before .encipher .ensures
-    ∙ ap (λ (ks : List Words). cipherBy mixTable ks (input .result)) (c .before .before .before .before .expand .ensures))
+    ∙ ap (λ (ks : RoundKeys). cipherBy mixTable ks (input .result)) (c .before .before .before .before .expand .ensures))
     ∙ by-mix-table (key .result) (input .result)
     ∙ ap₂ aes128 (key .ensures .back) (input .ensures .back)
 
