@@ -11,9 +11,10 @@ use Rattle.cmac.specs.declared.Prepared.{Prepared}
 use Rattle.ploam.specs.Layout.{messageOctets, micField}
 use Rattle.ploam.specs.Reading.{received}
 use Rattle.ploam.specs.Integrity.{same, micOf, micRight, micRightBy, genuineBy}
-use Rattle.ploam.specs.Upstream.{upstreamAddress}
+use Rattle.ploam.specs.Upstream.{upstreamAddress, heard}
 use Rattle.ploam.specs.Writing.{Outcome, written, Leaves}
 use Rattle.ploam.specs.declared.Direction.{Direction}
+use Rattle.ploam.specs.declared.Heard.{Heard}
 use Rattle.ploam.specs.declared.Received.{Received}
 use Rattle.ploam.specs.declared.UpstreamMessage.{UpstreamMessage}
 use Rattle.ploam.specs.declared.Written.the-variants.{Unfit}
@@ -29,6 +30,9 @@ check-determined t key direction m a b p q = p ∙ sym q
 pub genuine-determined : (t : List ℕ) (usual installed : Prepared) (m : List ℕ) (a b : Bool)
     → a ≡ genuineBy t usual installed m → b ≡ genuineBy t usual installed m → a ≡ b
 genuine-determined t usual installed m a b p q = p ∙ sym q
+
+pub heard-determined : (m : List ℕ) (a b : Heard) → a ≡ heard m → b ≡ heard m → a ≡ b
+heard-determined m a b p q = p ∙ sym q
 
 -- the answer and the whole target
 pub write-determined : (due : Outcome) (octets : List ℕ) (a b : Outcome) → Leaves due octets a → Leaves due octets b → a ≡ b
