@@ -90,7 +90,7 @@ roundKeysBy t k =
       k10 = roundKeyBy t k 10;
     }
 
--- five rounds, and nine
+-- 5.1: the key, five rounds, four more, and the last
 unfoldable pub firstRoundsBy : List ℕ → RoundKeys → Words → Words
 firstRoundsBy t ks s =
     let s1 = roundBy t (added s (ks .k0)) (ks .k1) in

@@ -1,41 +1,32 @@
+-- `cmac::add_block` meets its contract.
+-- Assumes nothing.
 use denote.Ref.{now}
 use Rattle.cmac.proofs.Blocks.{added-block}
 use borrow.Author.Needs.{needs}
 use Rattle.cmac.proofs.add_block.Statement.{statement}
 use Rattle.cmac.proofs.add_block.Tie as tie
-use Rattle.cmac.proofs.add_block.Reads as reads
-use Rattle.cmac.proofs.add_block.Lts as lts
-use Rattle.cmac.proofs.word_at.Reads as word-at-reads
 
--- src/lib.rt:115:18
 word-at-requires : tie.Need-word-at-requires
 word-at-requires c κs = search needs
 
--- src/lib.rt:116:29
 add-word-at : tie.Need-add-word-at
 add-word-at c = search needs
 
--- src/lib.rt:116:18
 word-at-requires-2 : tie.Need-word-at-requires-2
 word-at-requires-2 c κs = search needs
 
--- src/lib.rt:117:29
 add-word-at-2 : tie.Need-add-word-at-2
 add-word-at-2 c = search needs
 
--- src/lib.rt:117:18
 word-at-requires-3 : tie.Need-word-at-requires-3
 word-at-requires-3 c κs = search needs
 
--- src/lib.rt:118:29
 add-word-at-3 : tie.Need-add-word-at-3
 add-word-at-3 c = search needs
 
--- src/lib.rt:118:18
 word-at-requires-4 : tie.Need-word-at-requires-4
 word-at-requires-4 c κs = search needs
 
--- src/lib.rt:110:1
 returns : tie.Need-returns
 returns c =
     let c4 = c .before in

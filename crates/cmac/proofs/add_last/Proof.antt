@@ -1,3 +1,5 @@
+-- `cmac::add_last` meets its contract.
+-- Assumes nothing.
 use mathlib.Core.Path.{_∙_, ap}
 use Prim.Native.Nat.{_+_}
 use borrow.Author.Tests.{eq-eqb, ne-eqb}
@@ -11,32 +13,22 @@ use Rattle.cmac.proofs.Blocks.{subkey-first}
 use borrow.Author.Needs.{needs}
 use Rattle.cmac.proofs.add_last.Statement.{statement}
 use Rattle.cmac.proofs.add_last.Tie as tie
-use Rattle.cmac.proofs.add_last.Reads as reads
-use Rattle.cmac.proofs.add_last.Lts as lts
-use Rattle.aes.proofs.add.Reads as add-reads
-use Rattle.cmac.proofs.add_block.Reads as add-block-reads
 
--- src/lib.rt:134:19
 add-if1 : tie.Need-add-if1
 add-if1 c = search needs
 
--- src/lib.rt:135:19
 add-requires : tie.Need-add-requires
 add-requires c κs = search needs
 
--- src/lib.rt:135:9
 add-block-requires : tie.Need-add-block-requires
 add-block-requires c κs = search needs
 
--- src/lib.rt:137:19
 add-requires-2 : tie.Need-add-requires-2
 add-requires-2 c κs = search needs
 
--- src/lib.rt:137:9
 add-block-requires-2 : tie.Need-add-block-requires-2
 add-block-requires-2 c κs = search needs
 
--- src/lib.rt:128:1
 returns : tie.Need-returns
 unfolding lastBlockBy
 returns c =
@@ -48,7 +40,6 @@ returns c =
     ∙ subkey-first (args .x) (args .key .whole) b
     ∙ ap (λ (k : Words). added (args .x) (added b k)) (simp (eq-eqb (length m) (args .j + 16) (c .before .before .if1 .taken)))
 
--- src/lib.rt:128:1
 returns-2 : tie.Need-returns-2
 unfolding lastBlockBy
 returns-2 c =

@@ -1,3 +1,5 @@
+-- `cmac::tag` meets its contract.
+-- Assumes nothing.
 use mathlib.Core.Path.{_≡_, _∙_, refl, sym, ap, ap₂}
 use Prim.Native.Nat.{ℕ, _≤_, _-_, _*_}
 use native.Mathlib.Omega.{arith}
@@ -11,12 +13,6 @@ use Rattle.cmac.specs.ByTable.{chainedBy, lastBlockBy, tagBy}
 use Rattle.cmac.proofs.Blocks.{next-chained}
 use Rattle.cmac.proofs.tag.Statement.{statement}
 use Rattle.cmac.proofs.tag.Tie as tie
-use Rattle.cmac.proofs.tag.Reads as reads
-use Rattle.cmac.proofs.tag.Lts as lts
-use Rattle.aes.proofs.encipher.Reads as encipher-reads
-use Rattle.cmac.proofs.add_block.Reads as add-block-reads
-use Rattle.cmac.proofs.add_last.Reads as add-last-reads
-use Rattle.cmac.proofs.blocks_before.Reads as blocks-before-reads
 
 abbrev Inv-loop : tie.InvT-loop
 Inv-loop t key m ks n x₀ i₀ x i = (i ≤ n) × (x ≡ chainedBy t ks m i)
@@ -24,36 +20,28 @@ Inv-loop t key m ks n x₀ i₀ x i = (i ≤ n) × (x ≡ chainedBy t ks m i)
 abbrev μ-loop : tie.MeasureT-loop
 μ-loop t key m ks n x₀ i₀ x i = n - i
 
--- src/lib.rt:145:9
 blocks-before-requires : tie.Need-blocks-before-requires Inv-loop μ-loop
 blocks-before-requires c κs = search needs
 
--- src/lib.rt:153:5
 loop-holds : tie.Need-loop-holds Inv-loop μ-loop
 unfolding chainedBy
 loop-holds c = (omega arith, refl)
 
--- src/lib.rt:154:57
 mul-add-block : tie.Need-mul-add-block Inv-loop μ-loop
 mul-add-block c = omega (arith, c .before .before .before .before .before .good .1 .1 .0)
 
--- src/lib.rt:154:41
 add-block-requires : tie.Need-add-block-requires Inv-loop μ-loop
 add-block-requires c κs = omega (arith, c .before .before .before .before .before .good .1 .1 .0)
 
--- src/lib.rt:154:13
 encipher-requires : tie.Need-encipher-requires Inv-loop μ-loop
 encipher-requires c κs = search needs
 
--- src/lib.rt:156:9
 add-i : tie.Need-add-i Inv-loop μ-loop
 add-i c = search needs
 
--- src/lib.rt:153:5
 loop-less : tie.Need-loop-less Inv-loop μ-loop
 loop-less c = search needs
 
--- src/lib.rt:153:5
 loop-again : tie.Need-loop-again Inv-loop μ-loop
 loop-again c =
     let at = c .before .before .before in
@@ -66,19 +54,15 @@ loop-again c =
           ∙ sym (next-chained (now (args .t)) ks (now (args .m)) (at .loop .i)),
     )
 
--- src/lib.rt:158:46
 mul-add-last : tie.Need-mul-add-last Inv-loop μ-loop
 mul-add-last c = omega (arith, c .before .before .before .before .before .good .1 .1 .0)
 
--- src/lib.rt:158:26
 add-last-requires : tie.Need-add-last-requires Inv-loop μ-loop
 add-last-requires c κs = omega (arith, c .before .before .before .before .before .good .1 .1 .0)
 
--- src/lib.rt:158:5
 encipher-requires-2 : tie.Need-encipher-requires-2 Inv-loop μ-loop
 encipher-requires-2 c κs = search needs
 
--- src/lib.rt:141:1
 returns : tie.Need-returns Inv-loop μ-loop
 unfolding tagBy before
 returns c =

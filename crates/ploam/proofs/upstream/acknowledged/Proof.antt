@@ -1,34 +1,27 @@
+-- `ploam::upstream::acknowledged` meets its contract.
+-- Assumes nothing.
 use borrow.Author.Tests.{ne-eqb}
 use Rattle.ploam.proofs.upstream.acknowledged.Statement.{statement}
 use Rattle.ploam.proofs.upstream.acknowledged.Tie as tie
-use Rattle.ploam.proofs.upstream.acknowledged.Reads as reads
-use Rattle.ploam.proofs.upstream.acknowledged.Lts as lts
 
--- src/upstream.rt:12:1
 returns : tie.Need-returns
 returns c = rw (c .match .keys1)
 
--- src/upstream.rt:12:1
 returns-2 : tie.Need-returns-2
 returns-2 c = rw (c .match .keys2)
 
--- src/upstream.rt:12:1
 returns-3 : tie.Need-returns-3
 returns-3 c = rw (c .match .keys3)
 
--- src/upstream.rt:12:1
 returns-4 : tie.Need-returns-4
 returns-4 c = rw (c .match .keys4)
 
--- src/upstream.rt:12:1
 returns-5 : tie.Need-returns-5
 returns-5 c = rw (c .match .keys5)
 
--- src/upstream.rt:12:1
 returns-6 : tie.Need-returns-6
 returns-6 c = rw (c .match .keys6)
 
--- src/upstream.rt:12:1
 returns-7 : tie.Need-returns-7
 returns-7 c =
     let rest = c .match .rest in

@@ -1,3 +1,5 @@
+-- `ploam::upstream::content` meets its contract.
+-- Assumes nothing.
 use mathlib.Core.Path.{_∙_, sym, ap, ap₂}
 use Prim.Native.Nat.{ℕ}
 use borrow.Author.Tests.{ne-eqb}
@@ -11,50 +13,34 @@ use Rattle.ploam.specs.declared.Heard.the-variants.{Said}
 use borrow.Author.Needs.{needs}
 use Rattle.ploam.proofs.upstream.content.Statement.{statement}
 use Rattle.ploam.proofs.upstream.content.Tie as tie
-use Rattle.ploam.proofs.upstream.content.Reads as reads
-use Rattle.ploam.proofs.upstream.content.Lts as lts
-use Rattle.ploam.proofs.reading.address.Reads as address-reads
-use Rattle.ploam.proofs.reading.number32.Reads as number32-reads
-use Rattle.ploam.proofs.reading.serial_number.Reads as serial-number-reads
-use Rattle.ploam.proofs.upstream.acknowledged.Reads as acknowledged-reads
 
--- src/upstream.rt:30:16
 shared-slice-read-kind : tie.Need-shared-slice-read-kind
 shared-slice-read-kind c = search needs
 
--- src/upstream.rt:32:62
 serial-number-requires : tie.Need-serial-number-requires
 serial-number-requires c κs = search needs
 
--- src/upstream.rt:32:83
 number32-requires : tie.Need-number32-requires
 number32-requires c κs = search needs
 
--- src/upstream.rt:33:59
 address-requires : tie.Need-address-requires
 address-requires c κs = search needs
 
--- src/upstream.rt:33:71
 shared-slice-read-t11 : tie.Need-shared-slice-read-t11
 shared-slice-read-t11 c = search needs
 
--- src/upstream.rt:34:30
 address-requires-2 : tie.Need-address-requires-2
 address-requires-2 c κs = search needs
 
--- src/upstream.rt:34:42
 shared-slice-read-acknowledged : tie.Need-shared-slice-read-acknowledged
 shared-slice-read-acknowledged c = search needs
 
--- src/upstream.rt:34:48
 shared-slice-read-acknowledged-2 : tie.Need-shared-slice-read-acknowledged-2
 shared-slice-read-acknowledged-2 c = search needs
 
--- src/upstream.rt:34:17
 acknowledged-requires : tie.Need-acknowledged-requires
 acknowledged-requires c κs = search needs
 
--- src/upstream.rt:26:1
 returns : tie.Need-returns
 unfolding heardAs
 returns c =
@@ -62,7 +48,6 @@ returns c =
     ap₂ (λ (s : SerialNumber) (d : ℕ). Said (SerialNumberOnu s d)) (c .before .serial-number .ensures) (c .number32 .ensures)
     ∙ sym (ap (λ (k : ℕ). heardAs k (now (at .before .before .before .args .m))) (at .match .keys1))
 
--- src/upstream.rt:26:1
 returns-2 : tie.Need-returns-2
 unfolding heardAs
 returns-2 c =
@@ -71,7 +56,6 @@ returns-2 c =
     ap (λ (o : OnuId). Said (Registration o (seqNoOf m))) (c .before .address .ensures)
     ∙ sym (ap (λ (k : ℕ). heardAs k m) (at .match .keys2))
 
--- src/upstream.rt:26:1
 returns-3 : tie.Need-returns-3
 unfolding heardAs
 returns-3 c =
@@ -81,7 +65,6 @@ returns-3 c =
     ∙ ap (λ (o : OnuId). acknowledged o (seqNoOf m) (octet m 5)) (c .before .before .before .address2 .ensures)
     ∙ sym (ap (λ (k : ℕ). heardAs k m) (at .match .keys3))
 
--- src/upstream.rt:26:1
 returns-4 : tie.Need-returns-4
 unfolding heardAs
 returns-4 c =

@@ -1,3 +1,5 @@
+-- `ploam::upstream::read` meets its contract.
+-- Assumes nothing.
 use borrow.Author.Tests.{lt-ltb, le-ltb}
 use denote.Ref.{now}
 use lib.ListN.{length}
@@ -6,20 +8,14 @@ use Rattle.ploam.specs.Upstream.{heard}
 use borrow.Author.Needs.{needs}
 use Rattle.ploam.proofs.upstream.read.Statement.{statement}
 use Rattle.ploam.proofs.upstream.read.Tie as tie
-use Rattle.ploam.proofs.upstream.read.Reads as reads
-use Rattle.ploam.proofs.upstream.read.Lts as lts
-use Rattle.ploam.proofs.upstream.content.Reads as content-reads
 
--- src/upstream.rt:43:9
 returns : tie.Need-returns
 unfolding heard
 returns c = simp (lt-ltb _ _ (c .if1 .taken))
 
--- src/upstream.rt:45:5
 content-requires : tie.Need-content-requires
 content-requires c κs = search needs
 
--- src/upstream.rt:39:1
 returns-2 : tie.Need-returns-2
 unfolding heard
 returns-2 c =

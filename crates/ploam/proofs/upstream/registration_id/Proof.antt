@@ -1,3 +1,5 @@
+-- `ploam::upstream::registration_id` meets its contract.
+-- Assumes nothing.
 use borrow.Author.Tests.{lt-ltb, le-ltb}
 use denote.Ref.{now}
 use lib.ListN.{length}
@@ -5,38 +7,28 @@ use Rattle.ploam.specs.Layout.{messageOctets}
 use borrow.Author.Needs.{needs}
 use Rattle.ploam.proofs.upstream.registration_id.Statement.{statement}
 use Rattle.ploam.proofs.upstream.registration_id.Tie as tie
-use Rattle.ploam.proofs.upstream.registration_id.Reads as reads
-use Rattle.ploam.proofs.upstream.registration_id.Lts as lts
 
--- src/upstream.rt:53:16
 sub-result : tie.Need-sub-result
 sub-result c = search needs
 
--- src/upstream.rt:53:16
 part-result-start : tie.Need-part-result-start
 part-result-start c = search needs
 
--- src/upstream.rt:53:16
 part-result-end : tie.Need-part-result-end
 part-result-end c = search needs
 
--- src/upstream.rt:53:9
 returns : tie.Need-returns
 returns c = simp (lt-ltb (length (now (c .before .before .args .m))) messageOctets (c .before .if1 .taken))
 
--- src/upstream.rt:55:5
 sub-result-2 : tie.Need-sub-result-2
 sub-result-2 c = search needs
 
--- src/upstream.rt:55:5
 part-result-start-2 : tie.Need-part-result-start-2
 part-result-start-2 c = search needs
 
--- src/upstream.rt:55:5
 part-result-end-2 : tie.Need-part-result-end-2
 part-result-end-2 c = search needs
 
--- src/upstream.rt:49:1
 returns-2 : tie.Need-returns-2
 returns-2 c = simp (le-ltb (length (now (c .before .before .args .m))) messageOctets (c .before .if1 .left))
 
