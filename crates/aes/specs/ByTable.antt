@@ -1,4 +1,4 @@
--- The cipher by a table of 256 words, for every table that is lent. For `mixTable` it is AES-128: `by-mix-table` of
+-- The cipher by a table of 1024 words, for every table that is lent. For `mixTable` it is AES-128: `by-mix-table` of
 -- proofs/Ciphers.
 -- Assumes nothing.
 use Prim.Native.Nat.{ℕ, zero, suc, _+_, _*_, _/_, _%_}
@@ -18,16 +18,16 @@ mixOf x = joined (xtime (sBox x)) (sBox x) (sBox x) (bitXor (xtime (sBox x)) (sB
 abbrev pub turned : ℕ → ℕ
 turned w = w % 256 * 16777216 + w / 256
 
-abbrev pub entryOf : List ℕ → ℕ → ℕ
-entryOf t x = at t (x % 256)
+-- the entry for an octet in the row that starts there
+abbrev pub entryOf : List ℕ → ℕ → ℕ → ℕ
+entryOf t row x = at t (row + x % 256)
 
--- four entries, each turned into its row, and a word of the round key
+-- an entry of each row, and a word of the round key
 unfoldable pub columnBy : List ℕ → ℕ → ℕ → ℕ → ℕ → ℕ → ℕ
 columnBy t a b c d k =
     bitXor
-    (bitXor
-    (bitXor (bitXor (entryOf t (a / 16777216)) (turned (entryOf t (b / 65536)))) (turned (turned (entryOf t (c / 256)))))
-    (turned (turned (turned (entryOf t d)))))
+    (bitXor (bitXor (bitXor (entryOf t 0 (a / 16777216)) (entryOf t 256 (b / 65536))) (entryOf t 512 (c / 256)))
+    (entryOf t 768 d))
     k
 
 unfoldable pub roundBy : List ℕ → Words → Words → Words
@@ -41,7 +41,7 @@ roundBy t s k =
 
 -- the S-box stands in an entry's third octet
 abbrev pub subBy : List ℕ → ℕ → ℕ
-subBy t x = octet2 (entryOf t x)
+subBy t x = octet2 (entryOf t 0 x)
 
 unfoldable pub lastColumnBy : List ℕ → ℕ → ℕ → ℕ → ℕ → ℕ
 lastColumnBy t a b c d = joined (subBy t (a / 16777216)) (subBy t (b / 65536)) (subBy t (c / 256)) (subBy t d)

@@ -45,7 +45,7 @@ fn doubled(w: Words) -> Words
     }
 }
 
-pub fn prepare(t: &[u32; 256], key: [u8; 16]) -> Prepared
+pub fn prepare(t: &[u32; 1024], key: [u8; 16]) -> Prepared
     ensures { λ r. ⌜ Ready (now (t .entry)) key r ⌝ }
 {
     let all = aes::expand(t, aes::load(key));
@@ -138,7 +138,7 @@ fn add_last(key: Prepared, x: Words, m: &[u8], j: usize) -> Words
     }
 }
 
-fn tag(t: &[u32; 256], key: Prepared, m: &[u8]) -> Words
+fn tag(t: &[u32; 1024], key: Prepared, m: &[u8]) -> Words
     ensures { λ r. ⌜ r ≡ tagBy (now (t .entry)) key (now (m .entry)) ⌝ }
 {
     let ks = key.keys;
@@ -158,13 +158,13 @@ fn tag(t: &[u32; 256], key: Prepared, m: &[u8]) -> Words
     aes::encipher(t, ks, add_last(key, x, m, n * 16))
 }
 
-pub fn mac(t: &[u32; 256], key: Prepared, m: &[u8]) -> [u8; 16]
+pub fn mac(t: &[u32; 1024], key: Prepared, m: &[u8]) -> [u8; 16]
     ensures { λ r. ⌜ r ≡ macBy (now (t .entry)) key (now (m .entry)) ⌝ }
 {
     aes::store(tag(t, key, m))
 }
 
-pub fn mac64(t: &[u32; 256], key: Prepared, m: &[u8]) -> [u8; 8]
+pub fn mac64(t: &[u32; 1024], key: Prepared, m: &[u8]) -> [u8; 8]
     ensures { λ r. ⌜ r ≡ mac64By (now (t .entry)) key (now (m .entry)) ⌝ }
 {
     let w = tag(t, key, m);

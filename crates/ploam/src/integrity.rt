@@ -43,7 +43,7 @@ fn with_code(code: u8, m: &[u8]) -> [u8; 41]
     b
 }
 
-pub(crate) fn mic(t: &[u32; 256], key: Prepared, direction: Direction, m: &[u8]) -> [u8; 8]
+pub(crate) fn mic(t: &[u32; 1024], key: Prepared, direction: Direction, m: &[u8]) -> [u8; 8]
     requires { ⌜ coveredOctets ≤ length (now m) ⌝ }
     ensures { λ r. ⌜ r ≡ mac64By (now (t .entry)) key (covered direction (now (m .entry))) ⌝ }
 {
@@ -65,7 +65,7 @@ fn has_mic(m: &[u8], mic: [u8; 8]) -> bool
     true
 }
 
-pub fn mic_right(t: &[u32; 256], key: Prepared, direction: Direction, m: &[u8]) -> bool
+pub fn mic_right(t: &[u32; 1024], key: Prepared, direction: Direction, m: &[u8]) -> bool
     ensures { λ r. ⌜ r ≡ micRightBy (now (t .entry)) key direction (now (m .entry)) ⌝ }
 {
     if m.len() < MESSAGE_OCTETS {
@@ -106,7 +106,7 @@ pub fn by_default(direction: Direction, address: OnuId, kind: u8) -> bool
 
 // Whether a downstream message's integrity field is right under its own key: the default key (`usual`, prepared) or the
 // installed one. Where none is installed, the caller gives the default for both.
-pub fn genuine(t: &[u32; 256], usual: Prepared, installed: Prepared, m: &[u8]) -> bool
+pub fn genuine(t: &[u32; 1024], usual: Prepared, installed: Prepared, m: &[u8]) -> bool
     ensures { λ r. ⌜ r ≡ genuineBy (now (t .entry)) usual installed (now (m .entry)) ⌝ }
 {
     if m.len() < MESSAGE_OCTETS {

@@ -11,29 +11,11 @@ look-requires c κs = search needs
 look-requires-2 : tie.Need-look-requires-2
 look-requires-2 c κs = search needs
 
-turn-requires : tie.Need-turn-requires
-turn-requires c κs = search needs
-
 look-requires-3 : tie.Need-look-requires-3
 look-requires-3 c κs = search needs
 
-turn-requires-2 : tie.Need-turn-requires-2
-turn-requires-2 c κs = search needs
-
-turn-requires-3 : tie.Need-turn-requires-3
-turn-requires-3 c κs = search needs
-
 look-requires-4 : tie.Need-look-requires-4
 look-requires-4 c κs = search needs
-
-turn-requires-4 : tie.Need-turn-requires-4
-turn-requires-4 c κs = search needs
-
-turn-requires-5 : tie.Need-turn-requires-5
-turn-requires-5 c κs = search needs
-
-turn-requires-6 : tie.Need-turn-requires-6
-turn-requires-6 c κs = search needs
 
 returns : tie.Need-returns
 unfolding columnBy
@@ -41,16 +23,4 @@ returns c = cc
 
 pub column-spec : {M : Type 1} → statement M
 column-spec =
-    tie.close
-    (tie.spec
-    look-requires
-    look-requires-2
-    turn-requires
-    look-requires-3
-    turn-requires-2
-    turn-requires-3
-    look-requires-4
-    turn-requires-4
-    turn-requires-5
-    turn-requires-6
-    returns)
+    tie.close (tie.spec look-requires look-requires-2 look-requires-3 look-requires-4 returns)
