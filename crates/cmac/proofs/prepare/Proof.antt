@@ -1,0 +1,51 @@
+-- `cmac::prepare` meets its contract.
+-- Assumes nothing.
+use denote.Ref.{now}
+use Rattle.cmac.specs.ByTable.{preparedBy}
+use Rattle.cmac.proofs.Blocks.{prepared-of}
+use mathlib.Core.Path.{_∙_, ap, subst}
+use Rattle.aes.specs.Words.{Octets}
+use Rattle.aes.proofs.Octets.{octets-octets}
+use borrow.Author.Needs.{needs}
+use Rattle.cmac.proofs.prepare.Statement.{statement}
+use Rattle.cmac.proofs.prepare.Tie as tie
+
+load-requires : tie.Need-load-requires
+load-requires c κs = search needs
+
+expand-requires : tie.Need-expand-requires
+expand-requires c κs = search needs
+
+encipher-requires : tie.Need-encipher-requires
+encipher-requires c κs = search needs
+
+doubled-requires : tie.Need-doubled-requires
+doubled-requires c κs = search needs
+
+doubled-requires-2 : tie.Need-doubled-requires-2
+doubled-requires-2 c κs = search needs
+
+returns : tie.Need-returns
+returns c =
+    let load = c .before .before .before .before .load in
+    let args = c .before .before .before .before .before .args in
+    record {
+      made =
+          prepared-of (now (args .t)) (load .result) (c .before .before .before .expand .result)
+          (c .before .before .encipher .result) (c .before .doubled .result) (c .doubled2 .result)
+          (c .before .before .before .expand .ensures) (c .before .before .encipher .ensures) (c .before .doubled .ensures)
+          (c .doubled2 .ensures)
+          ∙ ap (preparedBy (now (args .t))) (load .ensures .made);
+      octets = subst Octets (load .ensures .back) (octets-octets (load .result));
+    }
+
+pub prepare-spec : {M : Type 1} → statement M
+prepare-spec =
+    tie.close
+    (tie.spec
+    load-requires
+    expand-requires
+    encipher-requires
+    doubled-requires
+    doubled-requires-2
+    returns)
