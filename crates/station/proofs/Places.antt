@@ -14,7 +14,7 @@ use Rattle.station.specs.Lists.{placeFrom, closeUp}
 
 -- one turn of the look through the first n of a list
 module _ {A : Type 0} (f : A → Bool) (i n : ℕ) (l : List A) (d : A) (h : i < n) (k : i < length l) where
-  slice-next : slice i n l ≡ getD l i d ∷ slice (suc i) n l
+  pub slice-next : slice i n l ≡ getD l i d ∷ slice (suc i) n l
   slice-next =
       let e : i < length (take n l) = simp length-take (omega arith) in
       drop-cons (take n l) i d e ∙ ap (λ (a : A). a ∷ slice (suc i) n l) (getD-take n l i d h)
