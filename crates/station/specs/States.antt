@@ -5,6 +5,19 @@ use mathlib.Core.Bool.{Bool, true, false}
 use Rattle.station.specs.declared.Activation.{Activation}
 use Rattle.station.specs.declared.Activation.the-variants.{Initial, SerialNumber, Ranging, Operation, Intermittent, EmergencyStop}
 
+-- the states by their numbers
+abbrev pub o23 : ℕ
+o23 = 2
+
+abbrev pub o4 : ℕ
+o4 = 4
+
+abbrev pub o5 : ℕ
+o5 = 5
+
+abbrev pub o7 : ℕ
+o7 = 7
+
 -- the number that the bench run prints: "O2-3 prints 2"
 abbrev pub stateNumber : Activation → ℕ
 stateNumber Initial = 1
