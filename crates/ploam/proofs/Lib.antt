@@ -1,1 +1,5 @@
 pub mod Types
+pub mod Same
+pub mod Keys
+pub mod Laid
+pub mod RoundTrip

@@ -44,3 +44,20 @@ seqNoOf m = octet m 4
 -- octets 41-48
 abbrev pub micField : List ℕ → List ℕ
 micField m = take 8 (drop coveredOctets m)
+
+-- Table 11-2, downstream: the types that the choice of a key looks at
+abbrev pub deactivateOnuId : ℕ
+deactivateOnuId = 0x05
+
+abbrev pub requestRegistration : ℕ
+requestRegistration = 0x09
+
+-- Table 11-3, upstream
+abbrev pub serialNumberOnu : ℕ
+serialNumberOnu = 0x01
+
+abbrev pub registration : ℕ
+registration = 0x02
+
+abbrev pub acknowledgement : ℕ
+acknowledgement = 0x09

@@ -1,2 +1,5 @@
 pub mod Layout
 pub mod Reading
+pub mod Integrity
+pub mod Upstream
+pub mod Writing

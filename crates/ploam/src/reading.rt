@@ -52,7 +52,7 @@ fn serial_number(m: &[u8], i: usize) -> SerialNumber
     }
 }
 
-fn address(m: &[u8]) -> OnuId
+pub(crate) fn address(m: &[u8]) -> OnuId
     requires { ⌜ messageOctets ≤ length (now m) ⌝ }
     ensures { λ r. ⌜ r ≡ addressOf (now (m .entry)) ⌝ }
 {

@@ -1,0 +1,50 @@
+use mathlib.Core.Path.{_∙_, ap}
+use mathlib.Core.List.{_∷_}
+use Prim.Native.Nat.{ℕ}
+use denote.Ref.{now}
+use lib.ListN.{take}
+use Rattle.cmac.specs.ByTable.{mac64By}
+use Rattle.ploam.specs.Layout.{coveredOctets}
+use borrow.Author.Needs.{needs}
+use Rattle.ploam.proofs.integrity.mic.Statement.{statement}
+use Rattle.ploam.proofs.integrity.mic.Tie as tie
+use Rattle.ploam.proofs.integrity.mic.Reads as reads
+use Rattle.ploam.proofs.integrity.mic.Lts as lts
+use Rattle.cmac.proofs.mac64.Reads as mac64-reads
+use Rattle.ploam.proofs.integrity.direction_code.Reads as direction-code-reads
+use Rattle.ploam.proofs.integrity.with_code.Reads as with-code-reads
+
+-- src/integrity.rt:44:23
+direction-code-requires : tie.Need-direction-code-requires
+direction-code-requires c κs = search needs
+
+-- src/integrity.rt:44:13
+with-code-requires : tie.Need-with-code-requires
+with-code-requires c κs = search needs
+
+-- src/integrity.rt:45:25
+slice-aggregate-mac64 : tie.Need-slice-aggregate-mac64
+slice-aggregate-mac64 c = search needs
+
+-- src/integrity.rt:45:5
+mac64-requires : tie.Need-mac64-requires
+mac64-requires c κs = search needs
+
+-- src/integrity.rt:40:1
+returns : tie.Need-returns
+returns c =
+    let args = c .before .before .before .before .before .args in
+    c .mac64 .ensures
+    ∙ ap (mac64By (now (args .t)) (args .key))
+    (c .before .before .with-code .ensures
+    ∙ ap (λ (code : ℕ). code ∷ take coveredOctets (now (args .m))) (c .before .before .before .direction-code .ensures))
+
+pub mic-spec : {M : Type 1} → statement M
+mic-spec =
+    tie.close
+    (tie.spec
+    direction-code-requires
+    with-code-requires
+    slice-aggregate-mac64
+    mac64-requires
+    returns)
