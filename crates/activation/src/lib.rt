@@ -5,6 +5,9 @@ ghost use lib.ListN.{length};
 ghost use Rattle.cmac.specs.ByTable.{Ready};
 ghost use Rattle.station.specs.Limits.{keyOctets};
 ghost use Rattle.activation.specs.Receiving.{genuineNow, receivedBy, receivedAllBy, AllReceived};
+
+pub mod replying;
+
 use cmac::Prepared;
 use ploam::Received;
 use station::Station;

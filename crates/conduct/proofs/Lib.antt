@@ -1,0 +1,5 @@
+pub mod Queue
+pub mod Valid
+pub mod Forgotten
+pub mod Determined
+pub mod Sums
