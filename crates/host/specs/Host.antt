@@ -45,9 +45,7 @@ unfoldable pub answerToAdd : Station → PortId → Answer
 answerToAdd s port =
     cond (not (inRange s)) StateOutOfRange
     (cond (not (assignablePort port)) PortOutOfRange
-    (cond (found (portPlace (s .ports) port)) PortHeldOrNotHeld
-    (cond (found (vacancy (s .ports))) Done
-    SlotsTaken)))
+    (cond (found (portPlace (s .ports) port)) PortHeldOrNotHeld (cond (found (vacancy (s .ports))) Done SlotsTaken)))
 
 -- 1, 7, 8: "removed port not held"
 unfoldable pub answerToRemove : Station → PortId → Answer
