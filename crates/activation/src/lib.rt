@@ -16,7 +16,7 @@ use station::Station;
 const MESSAGE_OCTETS: usize = 48;
 
 // The key that counts is the one held as the message is considered.
-fn genuine_now(t: &[u32; 256], usual: Prepared, installed: Prepared, held: bool, m: &[u8]) -> bool
+fn genuine_now(t: &[u32; 1024], usual: Prepared, installed: Prepared, held: bool, m: &[u8]) -> bool
     ensures { λ r. ⌜ r ≡ genuineNow (now (t .entry)) usual installed held (now (m .entry)) ⌝ }
 {
     if held {
@@ -26,7 +26,7 @@ fn genuine_now(t: &[u32; 256], usual: Prepared, installed: Prepared, held: bool,
 }
 
 // The integrity check is made last: it costs most, and a failed test of any kind ignores the message.
-fn receive(t: &[u32; 256], usual: Prepared, installed: Prepared, s: Station, m: &[u8]) -> Station
+fn receive(t: &[u32; 1024], usual: Prepared, installed: Prepared, s: Station, m: &[u8]) -> Station
     ensures { λ r. ⌜ r ≡ receivedBy (now (t .entry)) usual installed s (now (m .entry)) ⌝ }
 {
     match ploam::reading::read(m) {
@@ -47,7 +47,7 @@ fn receive(t: &[u32; 256], usual: Prepared, installed: Prepared, s: Station, m: 
 }
 
 fn receive_each(
-    t: &[u32; 256],
+    t: &[u32; 1024],
     usual: Prepared,
     installed: Prepared,
     s: Station,
@@ -67,7 +67,7 @@ fn receive_each(
     next
 }
 
-fn prepared(t: &[u32; 256], octets: [u8; 16]) -> Prepared
+fn prepared(t: &[u32; 1024], octets: [u8; 16]) -> Prepared
     ensures { λ r. ⌜ (Ready (now (t .entry)) octets r) × (length octets ≡ keyOctets) ⌝ }
 {
     cmac::prepare(t, octets)

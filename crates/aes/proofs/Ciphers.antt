@@ -9,24 +9,24 @@ use lib.ListN.{getD}
 use Rattle.aes.specs.Field.{sBox, xtime}
 use Rattle.aes.specs.Cipher.{at, mixed, shiftRows, subBytes, addRoundKey, roundOf, lastOf, nextKey, rcon, roundKey, rounds, aes128}
 use Rattle.aes.specs.Words.{joined, octet0, octet1, octet2, octet3, octetsOf, added, noWords, Four}
-use Rattle.aes.specs.ByTable.{mixOf, turned, entryOf, columnBy, roundBy, subBy, lastColumnBy, lastBy, turnedWordBy, nextKeyBy, roundKeyBy, roundKeysBy, roundsBy, cipherBy}
+use Rattle.aes.specs.ByTable.{mixOf, turned, entryOf, columnBy, roundBy, subBy, lastColumnBy, lastBy, turnedWordBy, nextKeyBy, roundKeyBy, roundKeysBy, firstRoundsBy, cipherBy}
 use Rattle.aes.specs.MixTable.{mixTable}
 use Rattle.aes.specs.declared.Words.{Words}
-use Rattle.aes.proofs.Bytes.{entry-rule, sBox-byte, xtime-byte, rcon-byte}
-use Rattle.aes.proofs.Octets.{xor-byte, xor0, xor1, xor2, xor3, turned-joined, four, sixteen, added-octets, getD-tabulate}
+use Rattle.aes.proofs.Bytes.{row0, row1, row2, row3, sBox-byte, xtime-byte, rcon-byte}
+use Rattle.aes.proofs.Octets.{xor-byte, xor0, xor1, xor2, xor3, turned-joined, four, sixteen, added-octets}
 use Rattle.aes.proofs.Xor.{xor-assoc}
 
 -- the rows in the order of the table's entries, and in that of 5.1.3 from row r on
-row1 : (a p q d : ℕ) → bitXor (bitXor (bitXor a p) q) d ≡ bitXor (bitXor (bitXor p q) d) a
-row1 a p q d =
+sum1 : (a p q d : ℕ) → bitXor (bitXor (bitXor a p) q) d ≡ bitXor (bitXor (bitXor p q) d) a
+sum1 a p q d =
     ap (λ (x : ℕ). bitXor x d) (xor-assoc a p q) ∙ xor-assoc a (bitXor p q) d ∙ xor-comm a (bitXor (bitXor p q) d)
 
-row2 : (a b p q : ℕ) → bitXor (bitXor (bitXor a b) p) q ≡ bitXor (bitXor (bitXor p q) a) b
-row2 a b p q =
+sum2 : (a b p q : ℕ) → bitXor (bitXor (bitXor a b) p) q ≡ bitXor (bitXor (bitXor p q) a) b
+sum2 a b p q =
     xor-assoc (bitXor a b) p q ∙ xor-comm (bitXor a b) (bitXor p q) ∙ sym (xor-assoc (bitXor p q) a b)
 
-row3 : (q b c p : ℕ) → bitXor (bitXor (bitXor q b) c) p ≡ bitXor (bitXor (bitXor p q) b) c
-row3 q b c p =
+sum3 : (q b c p : ℕ) → bitXor (bitXor (bitXor q b) c) p ≡ bitXor (bitXor (bitXor p q) b) c
+sum3 q b c p =
     xor-comm (bitXor (bitXor q b) c) p ∙ sym (xor-assoc p (bitXor q b) c)
     ∙ ap (λ (x : ℕ). bitXor x c) (sym (xor-assoc p q b))
 
@@ -58,19 +58,29 @@ two-byte x = xtime-byte (one x) (one-byte x)
 three-byte : (x : ℕ) → three x < 256
 three-byte x = xor-byte (two-byte x) (one-byte x)
 
--- an entry, turned into each row
-joined0 : (x : ℕ) → entryOf mixTable x ≡ joined (two x) (one x) (one x) (three x)
+-- an entry of each row
+joined0 : (x : ℕ) → entryOf mixTable 0 x ≡ joined (two x) (one x) (one x) (three x)
 unfolding mixOf
-joined0 x = entry-rule x
+joined0 x = row0 x
 
-joined1 : (x : ℕ) → turned (entryOf mixTable x) ≡ joined (three x) (two x) (one x) (one x)
-joined1 x = ap turned (joined0 x) ∙ turned-joined (two x) (one x) (one x) (three x) (three-byte x)
+turned1 : (x : ℕ) → turned (mixOf (x % 256)) ≡ joined (three x) (two x) (one x) (one x)
+unfolding mixOf
+turned1 x = turned-joined (two x) (one x) (one x) (three x) (three-byte x)
 
-joined2 : (x : ℕ) → turned (turned (entryOf mixTable x)) ≡ joined (one x) (three x) (two x) (one x)
-joined2 x = ap turned (joined1 x) ∙ turned-joined (three x) (two x) (one x) (one x) (one-byte x)
+turned2 : (x : ℕ) → turned (turned (mixOf (x % 256))) ≡ joined (one x) (three x) (two x) (one x)
+turned2 x = ap turned (turned1 x) ∙ turned-joined (three x) (two x) (one x) (one x) (one-byte x)
 
-joined3 : (x : ℕ) → turned (turned (turned (entryOf mixTable x))) ≡ joined (one x) (one x) (three x) (two x)
-joined3 x = ap turned (joined2 x) ∙ turned-joined (one x) (three x) (two x) (one x) (one-byte x)
+turned3 : (x : ℕ) → turned (turned (turned (mixOf (x % 256)))) ≡ joined (one x) (one x) (three x) (two x)
+turned3 x = ap turned (turned2 x) ∙ turned-joined (one x) (three x) (two x) (one x) (one-byte x)
+
+joined1 : (x : ℕ) → entryOf mixTable 256 x ≡ joined (three x) (two x) (one x) (one x)
+joined1 x = row1 x ∙ turned1 x
+
+joined2 : (x : ℕ) → entryOf mixTable 512 x ≡ joined (one x) (three x) (two x) (one x)
+joined2 x = row2 x ∙ turned2 x
+
+joined3 : (x : ℕ) → entryOf mixTable 768 x ≡ joined (one x) (one x) (three x) (two x)
+joined3 x = row3 x ∙ turned3 x
 
 -- 5.1.3 and 5.1.4: a column of a round
 mixed-column : (a b c d k : ℕ)
@@ -84,10 +94,10 @@ mixed-column a b c d k =
     let p = a / 16777216 in
     let q = b / 65536 in
     let r = c / 256 in
-    let e0 = entryOf mixTable p in
-    let e1 = turned (entryOf mixTable q) in
-    let e2 = turned (turned (entryOf mixTable r)) in
-    let e3 = turned (turned (turned (entryOf mixTable d))) in
+    let e0 = entryOf mixTable 0 p in
+    let e1 = entryOf mixTable 256 q in
+    let e2 = entryOf mixTable 512 r in
+    let e3 = entryOf mixTable 768 d in
     let f0 = four (joined0 p) (two-byte p) (one-byte p) (one-byte p) (three-byte p) in
     let f1 = four (joined1 q) (three-byte q) (two-byte q) (one-byte q) (one-byte q) in
     let f2 = four (joined2 r) (one-byte r) (three-byte r) (two-byte r) (one-byte r) in
@@ -99,15 +109,15 @@ mixed-column a b c d k =
       at1 =
           five octet1 xor1 e0 e1 e2 e3 k
           ∙ ap (λ (x : ℕ). bitXor x (octet1 k))
-          (ap₂ bitXor (ap₂ bitXor (ap₂ bitXor (f0 .at1) (f1 .at1)) (f2 .at1)) (f3 .at1) ∙ row1 (one p) (two q) (three r) (one d));
+          (ap₂ bitXor (ap₂ bitXor (ap₂ bitXor (f0 .at1) (f1 .at1)) (f2 .at1)) (f3 .at1) ∙ sum1 (one p) (two q) (three r) (one d));
       at2 =
           five octet2 xor2 e0 e1 e2 e3 k
           ∙ ap (λ (x : ℕ). bitXor x (octet2 k))
-          (ap₂ bitXor (ap₂ bitXor (ap₂ bitXor (f0 .at2) (f1 .at2)) (f2 .at2)) (f3 .at2) ∙ row2 (one p) (one q) (two r) (three d));
+          (ap₂ bitXor (ap₂ bitXor (ap₂ bitXor (f0 .at2) (f1 .at2)) (f2 .at2)) (f3 .at2) ∙ sum2 (one p) (one q) (two r) (three d));
       at3 =
           five octet3 xor3 e0 e1 e2 e3 k
           ∙ ap (λ (x : ℕ). bitXor x (octet3 k))
-          (ap₂ bitXor (ap₂ bitXor (ap₂ bitXor (f0 .at3) (f1 .at3)) (f2 .at3)) (f3 .at3) ∙ row3 (three p) (one q) (one r) (two d));
+          (ap₂ bitXor (ap₂ bitXor (ap₂ bitXor (f0 .at3) (f1 .at3)) (f2 .at3)) (f3 .at3) ∙ sum3 (three p) (one q) (one r) (two d));
     }
 
 pub round-is : (s k : Words) → octetsOf (roundBy mixTable s k) ≡ roundOf (octetsOf s) (octetsOf k)
@@ -182,32 +192,31 @@ round-key-is k (suc i) =
     next-key-is (roundKeyBy mixTable k i) (rcon i) (rcon-byte i)
     ∙ ap (λ (l : List ℕ). nextKey l (rcon i)) (round-key-is k i)
 
-key-at : (k : Words) (i : ℕ) → i < 11 → octetsOf (getD (roundKeysBy mixTable k) i noWords) ≡ roundKey i (octetsOf k)
-unfolding roundKeysBy
-key-at k i l = ap octetsOf (getD-tabulate 11 (roundKeyBy mixTable k) i noWords l) ∙ round-key-is k i
-
-rounds-are : (k s : Words) (i : ℕ) → i < 11
-    → octetsOf (roundsBy mixTable (roundKeysBy mixTable k) i s) ≡ rounds i (octetsOf k) (octetsOf s)
-unfolding roundsBy rounds
-rounds-are k s zero l = refl
-rounds-are k s (suc i) l =
-    round-is (roundsBy mixTable (roundKeysBy mixTable k) i s) (getD (roundKeysBy mixTable k) (suc i) noWords)
-    ∙ ap₂ roundOf (rounds-are k s i (omega arith)) (key-at k (suc i) l)
-
-key-zero : (key : List ℕ) → roundKey 0 key ≡ key
-unfolding roundKey
-key-zero key = refl
-
 -- for every key and every block
 pub by-mix-table : (k s : Words)
     → octetsOf (cipherBy mixTable (roundKeysBy mixTable k) s) ≡ aes128 (octetsOf k) (octetsOf s)
-unfolding cipherBy aes128
+unfolding cipherBy firstRoundsBy roundKeysBy aes128 rounds
 by-mix-table k s =
-    let first = getD (roundKeysBy mixTable k) 0 noWords in
-    last-is (roundsBy mixTable (roundKeysBy mixTable k) 9 (added s first)) (getD (roundKeysBy mixTable k) 10 noWords)
-    ∙ ap₂ lastOf
-    (rounds-are k (added s first) 9 (omega arith)
-    ∙ ap (rounds 9 (octetsOf k))
-    (added-octets s first
-    ∙ ap (addRoundKey (octetsOf s)) (key-at k 0 (omega arith) ∙ key-zero (octetsOf k))))
-    (key-at k 10 (omega arith))
+    let t = mixTable in
+    let key = roundKeyBy t k in
+    let s0 = added s k in
+    let s1 = roundBy t s0 (key 1) in
+    let s2 = roundBy t s1 (key 2) in
+    let s3 = roundBy t s2 (key 3) in
+    let s4 = roundBy t s3 (key 4) in
+    let s5 = roundBy t s4 (key 5) in
+    let s6 = roundBy t s5 (key 6) in
+    let s7 = roundBy t s6 (key 7) in
+    let s8 = roundBy t s7 (key 8) in
+    let s9 = roundBy t s8 (key 9) in
+    let e0 = added-octets s k in
+    let e1 = round-is s0 (key 1) ∙ ap₂ roundOf e0 (round-key-is k 1) in
+    let e2 = round-is s1 (key 2) ∙ ap₂ roundOf e1 (round-key-is k 2) in
+    let e3 = round-is s2 (key 3) ∙ ap₂ roundOf e2 (round-key-is k 3) in
+    let e4 = round-is s3 (key 4) ∙ ap₂ roundOf e3 (round-key-is k 4) in
+    let e5 = round-is s4 (key 5) ∙ ap₂ roundOf e4 (round-key-is k 5) in
+    let e6 = round-is s5 (key 6) ∙ ap₂ roundOf e5 (round-key-is k 6) in
+    let e7 = round-is s6 (key 7) ∙ ap₂ roundOf e6 (round-key-is k 7) in
+    let e8 = round-is s7 (key 8) ∙ ap₂ roundOf e7 (round-key-is k 8) in
+    let e9 = round-is s8 (key 9) ∙ ap₂ roundOf e8 (round-key-is k 9) in
+    last-is s9 (key 10) ∙ ap₂ lastOf e9 (round-key-is k 10)

@@ -5,3 +5,4 @@ pub mod Table
 pub mod Bytes
 pub mod Octets
 pub mod Ciphers
+pub mod Determined

@@ -1,10 +1,9 @@
 -- Words and their octets: exclusive or goes octet by octet, and what was joined comes out again.
 -- Assumes nothing.
-use mathlib.Core.Path.{_≡_, refl, sym, ap, ap₂, subst, _∙_}
+use mathlib.Core.Path.{_≡_, refl, sym, ap, _∙_}
 use mathlib.Core.List.{List, [], _∷_}
 use Prim.Native.Nat.{ℕ, zero, suc, _+_, _*_, _/_, _%_, _<_, _^_}
 use native.Mathlib.Omega.{arith}
-use native.Mathlib.Nat.{le-of-suc-le-suc, not-suc-le-zero}
 use lib.Bits.{bitXor, xor-lt, xor-shr, xor-mod}
 use lib.ListN.{length, getD}
 use Rattle.aes.specs.Cipher.{at, tabulate, block, addRoundKey}
@@ -55,12 +54,6 @@ pub added-octets : (s k : Words) → octetsOf (added s k) ≡ addRoundKey (octet
 added-octets s k =
     sixteen {w = added s k} (xored (s .a) (k .a)) (xored (s .b) (k .b)) (xored (s .c) (k .c)) (xored (s .d) (k .d))
 
-module _ {A : Type 0} where
-  pub getD-tabulate : (n : ℕ) (f : ℕ → A) (i : ℕ) (d : A) → i < n → getD (tabulate n f) i d ≡ f i
-  getD-tabulate zero f i d h = absurd (not-suc-le-zero h)
-  getD-tabulate (suc n) f zero d h = refl
-  getD-tabulate (suc n) f (suc i) d h = getD-tabulate n (λ j. f (suc j)) i d (le-of-suc-le-suc h)
-
 pub whole : (n : ℕ) (l : List ℕ) → length l ≡ n → l ≡ tabulate n (at l)
 whole zero [] h = refl
 whole zero (x ∷ l) h = absurd (omega arith)
@@ -97,7 +90,3 @@ octets-octets w =
     let c = octet0 (w .c) ∷ octet1 (w .c) ∷ octet2 (w .c) ∷ octet3 (w .c) ∷ d in
     let b = octet0 (w .b) ∷ octet1 (w .b) ∷ octet2 (w .b) ∷ octet3 (w .b) ∷ c in
     octets-word (w .a) b (octets-word (w .b) c (octets-word (w .c) d (octets-word (w .d) [] octets-nil)))
-
--- what comes out of its words again is made of octets
-pub octets-back : (l : List ℕ) → octetsOf (wordsOf l) ≡ l → Octets l
-octets-back l e = subst Octets e (octets-octets (wordsOf l))

@@ -1,13 +1,13 @@
--- The cipher by a table of 256 words, for every table that is lent. For `mixTable` it is AES-128: `by-mix-table` of
+-- The cipher by a table of 1024 words, for every table that is lent. For `mixTable` it is AES-128: `by-mix-table` of
 -- proofs/Ciphers.
 -- Assumes nothing.
 use Prim.Native.Nat.{ℕ, zero, suc, _+_, _*_, _/_, _%_}
 use mathlib.Core.List.{List}
 use lib.Bits.{bitXor}
-use lib.ListN.{getD}
 use Rattle.aes.specs.Field.{sBox, xtime}
-use Rattle.aes.specs.Cipher.{at, tabulate, rcon}
-use Rattle.aes.specs.Words.{joined, octet2, added, noWords}
+use Rattle.aes.specs.Cipher.{at, rcon}
+use Rattle.aes.specs.Words.{joined, octet2, added}
+use Rattle.aes.specs.declared.RoundKeys.{RoundKeys}
 use Rattle.aes.specs.declared.Words.{Words}
 
 -- what the table should hold at x: the column that MixColumns makes of the S-box value of x in row 0
@@ -18,16 +18,16 @@ mixOf x = joined (xtime (sBox x)) (sBox x) (sBox x) (bitXor (xtime (sBox x)) (sB
 abbrev pub turned : ℕ → ℕ
 turned w = w % 256 * 16777216 + w / 256
 
-abbrev pub entryOf : List ℕ → ℕ → ℕ
-entryOf t x = at t (x % 256)
+-- the entry for an octet in the row that starts there
+abbrev pub entryOf : List ℕ → ℕ → ℕ → ℕ
+entryOf t row x = at t (row + x % 256)
 
--- four entries, each turned into its row, and a word of the round key
+-- an entry of each row, and a word of the round key
 unfoldable pub columnBy : List ℕ → ℕ → ℕ → ℕ → ℕ → ℕ → ℕ
 columnBy t a b c d k =
     bitXor
-    (bitXor
-    (bitXor (bitXor (entryOf t (a / 16777216)) (turned (entryOf t (b / 65536)))) (turned (turned (entryOf t (c / 256)))))
-    (turned (turned (turned (entryOf t d)))))
+    (bitXor (bitXor (bitXor (entryOf t 0 (a / 16777216)) (entryOf t 256 (b / 65536))) (entryOf t 512 (c / 256)))
+    (entryOf t 768 d))
     k
 
 unfoldable pub roundBy : List ℕ → Words → Words → Words
@@ -41,7 +41,7 @@ roundBy t s k =
 
 -- the S-box stands in an entry's third octet
 abbrev pub subBy : List ℕ → ℕ → ℕ
-subBy t x = octet2 (entryOf t x)
+subBy t x = octet2 (entryOf t 0 x)
 
 unfoldable pub lastColumnBy : List ℕ → ℕ → ℕ → ℕ → ℕ → ℕ
 lastColumnBy t a b c d = joined (subBy t (a / 16777216)) (subBy t (b / 65536)) (subBy t (c / 256)) (subBy t d)
@@ -74,13 +74,35 @@ roundKeyBy t k zero = k
 roundKeyBy t k (suc i) = nextKeyBy t (roundKeyBy t k i) (rcon i)
 
 -- all eleven
-unfoldable pub roundKeysBy : List ℕ → Words → List Words
-roundKeysBy t k = tabulate 11 (roundKeyBy t k)
+unfoldable pub roundKeysBy : List ℕ → Words → RoundKeys
+roundKeysBy t k =
+    record {
+      k0 = k;
+      k1 = roundKeyBy t k 1;
+      k2 = roundKeyBy t k 2;
+      k3 = roundKeyBy t k 3;
+      k4 = roundKeyBy t k 4;
+      k5 = roundKeyBy t k 5;
+      k6 = roundKeyBy t k 6;
+      k7 = roundKeyBy t k 7;
+      k8 = roundKeyBy t k 8;
+      k9 = roundKeyBy t k 9;
+      k10 = roundKeyBy t k 10;
+    }
 
--- the state after i rounds from s
-unfoldable pub roundsBy : List ℕ → List Words → ℕ → Words → Words
-roundsBy t ks zero s = s
-roundsBy t ks (suc i) s = roundBy t (roundsBy t ks i s) (getD ks (suc i) noWords)
+-- 5.1: the key, five rounds, four more, and the last
+unfoldable pub firstRoundsBy : List ℕ → RoundKeys → Words → Words
+firstRoundsBy t ks s =
+    let s1 = roundBy t (added s (ks .k0)) (ks .k1) in
+    let s2 = roundBy t s1 (ks .k2) in
+    let s3 = roundBy t s2 (ks .k3) in
+    let s4 = roundBy t s3 (ks .k4) in
+    roundBy t s4 (ks .k5)
 
-unfoldable pub cipherBy : List ℕ → List Words → Words → Words
-cipherBy t ks s = lastBy t (roundsBy t ks 9 (added s (getD ks 0 noWords))) (getD ks 10 noWords)
+unfoldable pub cipherBy : List ℕ → RoundKeys → Words → Words
+cipherBy t ks s =
+    let s6 = roundBy t (firstRoundsBy t ks s) (ks .k6) in
+    let s7 = roundBy t s6 (ks .k7) in
+    let s8 = roundBy t s7 (ks .k8) in
+    let s9 = roundBy t s8 (ks .k9) in
+    lastBy t s9 (ks .k10)

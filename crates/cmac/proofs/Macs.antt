@@ -15,6 +15,7 @@ use Rattle.aes.specs.Cipher.{at, addRoundKey, aes128}
 use Rattle.aes.specs.Words.{octet0, octet1, octet2, octet3, octetsOf, wordsOf, added, noWords, Octets, Four}
 use Rattle.aes.specs.ByTable.{roundKeysBy, cipherBy}
 use Rattle.aes.specs.MixTable.{mixTable}
+use Rattle.aes.specs.declared.RoundKeys.{RoundKeys}
 use Rattle.aes.specs.declared.Words.{Words}
 use Rattle.aes.proofs.Octets.{xor0, xor1, xor2, xor3, sixteen, added-octets, octets-words, octets-tabulate}
 use Rattle.aes.proofs.Ciphers.{by-mix-table}
@@ -116,7 +117,7 @@ module _ (k : Words) (m : List ℕ) (o : Octets m) where
   unfolding tagBy cmac
   tag-is =
       ap
-      (λ (ks : List Words).
+      (λ (ks : RoundKeys).
       octetsOf (cipherBy mixTable ks (added (chainedBy mixTable ks m (before m)) (lastBlockBy (preparedBy mixTable k) m (before m * 16)))))
       (keys-of k)
       ∙ enciphered (chainedBy mixTable (roundKeysBy mixTable k) m (before m)) (lastBlockBy (preparedBy mixTable k) m (before m * 16))

@@ -10,6 +10,7 @@ use lib.Dec.{eqb}
 use lib.Bits.{bitXor}
 use Rattle.aes.specs.Words.{joined, octetsOf, wordsOf, added, noWords, Octets}
 use Rattle.aes.specs.ByTable.{roundKeysBy, cipherBy}
+use Rattle.aes.specs.declared.RoundKeys.{RoundKeys}
 use Rattle.aes.specs.declared.Words.{Words}
 use Rattle.cmac.specs.Mac.{rb, paddedAt, blockAt, before}
 use Rattle.cmac.specs.declared.Prepared.{Prepared}
@@ -46,7 +47,7 @@ pub record Ready (t key : List ℕ) (p : Prepared) : Type 0 where
 unfoldable pub wordAt : List ℕ → ℕ → ℕ
 wordAt m j = joined (paddedAt m j) (paddedAt m (j + 1)) (paddedAt m (j + 2)) (paddedAt m (j + 3))
 
-unfoldable pub chainedBy : List ℕ → List Words → List ℕ → ℕ → Words
+unfoldable pub chainedBy : List ℕ → RoundKeys → List ℕ → ℕ → Words
 chainedBy t ks m zero = noWords
 chainedBy t ks m (suc i) = cipherBy t ks (added (chainedBy t ks m i) (wordsOf (blockAt m (i * 16))))
 

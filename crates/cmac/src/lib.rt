@@ -2,14 +2,15 @@
 ghost use mathlib.Core.Path.{_≡_};
 ghost use Prim.Native.Nat.{_+_, _-_, _*_, _/_, _<_, _≤_, _^_};
 ghost use lib.ListN.{length};
-ghost use Rattle.aes.specs.Words.{wordsOf};
+ghost use Rattle.aes.specs.Words.{wordsOf, added};
 ghost use Rattle.cmac.specs.Mac.{paddedAt, blockAt, cmac};
 ghost use Rattle.cmac.specs.ByTable.{shiftedWord, lastWord, doubledWords, Ready, wordAt, lastBlockBy, tagBy, macBy, mac64By};
+use aes::RoundKeys;
 use aes::Words;
 
 // The round keys, and the subkeys K1 for a whole last block and K2 for a padded one.
 pub struct Prepared {
-    pub keys: [Words; 11],
+    pub keys: RoundKeys,
     pub whole: Words,
     pub padded: Words,
 }
@@ -44,7 +45,7 @@ fn doubled(w: Words) -> Words
     }
 }
 
-pub fn prepare(t: &[u32; 256], key: [u8; 16]) -> Prepared
+pub fn prepare(t: &[u32; 1024], key: [u8; 16]) -> Prepared
     ensures { λ r. ⌜ Ready (now (t .entry)) key r ⌝ }
 {
     let all = aes::expand(t, aes::load(key));
@@ -105,15 +106,16 @@ fn word_at(m: &[u8], j: usize) -> u32
     }
 }
 
-fn block_at(m: &[u8], j: usize) -> Words
+// Added word by word, and not as a block: a block that is written word by word and then read whole stalls.
+fn add_block(x: Words, m: &[u8], j: usize) -> Words
     requires { ⌜ j + 16 < 2 ^ 64 ⌝ }
-    ensures { λ r. ⌜ r ≡ wordsOf (blockAt (now (m .entry)) j) ⌝ }
+    ensures { λ r. ⌜ r ≡ added x (wordsOf (blockAt (now (m .entry)) j)) ⌝ }
 {
     Words {
-        a: word_at(m, j),
-        b: word_at(m, j + 4),
-        c: word_at(m, j + 8),
-        d: word_at(m, j + 12),
+        a: x.a ^ word_at(m, j),
+        b: x.b ^ word_at(m, j + 4),
+        c: x.c ^ word_at(m, j + 8),
+        d: x.d ^ word_at(m, j + 12),
     }
 }
 
@@ -123,21 +125,20 @@ fn blocks_before(n: usize) -> usize
     if n == 0 { 0 } else { (n - 1) / 16 }
 }
 
-fn last_block(key: Prepared, m: &[u8], j: usize) -> Words
+fn add_last(key: Prepared, x: Words, m: &[u8], j: usize) -> Words
     requires { ⌜ j + 16 < 2 ^ 64 ⌝ }
-    ensures { λ r. ⌜ r ≡ lastBlockBy key (now (m .entry)) j ⌝ }
+    ensures { λ r. ⌜ r ≡ added x (lastBlockBy key (now (m .entry)) j) ⌝ }
 {
-    let b = block_at(m, j);
     let whole = key.whole;
     let padded = key.padded;
     if m.len() == j + 16 {
-        aes::add(b, whole)
+        add_block(aes::add(x, whole), m, j)
     } else {
-        aes::add(b, padded)
+        add_block(aes::add(x, padded), m, j)
     }
 }
 
-fn tag(t: &[u32; 256], key: Prepared, m: &[u8]) -> Words
+fn tag(t: &[u32; 1024], key: Prepared, m: &[u8]) -> Words
     ensures { λ r. ⌜ r ≡ tagBy (now (t .entry)) key (now (m .entry)) ⌝ }
 {
     let ks = key.keys;
@@ -150,20 +151,20 @@ fn tag(t: &[u32; 256], key: Prepared, m: &[u8]) -> Words
     };
     let mut i: usize = 0;
     while i < n {
-        let next = aes::encipher(t, ks, aes::add(x, block_at(m, i * 16)));
+        let next = aes::encipher(t, ks, add_block(x, m, i * 16));
         x = next;
         i += 1;
     }
-    aes::encipher(t, ks, aes::add(x, last_block(key, m, n * 16)))
+    aes::encipher(t, ks, add_last(key, x, m, n * 16))
 }
 
-pub fn mac(t: &[u32; 256], key: Prepared, m: &[u8]) -> [u8; 16]
+pub fn mac(t: &[u32; 1024], key: Prepared, m: &[u8]) -> [u8; 16]
     ensures { λ r. ⌜ r ≡ macBy (now (t .entry)) key (now (m .entry)) ⌝ }
 {
     aes::store(tag(t, key, m))
 }
 
-pub fn mac64(t: &[u32; 256], key: Prepared, m: &[u8]) -> [u8; 8]
+pub fn mac64(t: &[u32; 1024], key: Prepared, m: &[u8]) -> [u8; 8]
     ensures { λ r. ⌜ r ≡ mac64By (now (t .entry)) key (now (m .entry)) ⌝ }
 {
     let w = tag(t, key, m);

@@ -51,7 +51,7 @@ left-true : (a b : Bool) → (a && b) ≡ true → a ≡ true
 left-true true b e = refl
 left-true false b e = e
 
-right-true : (a b : Bool) → (a && b) ≡ true → b ≡ true
+pub right-true : (a b : Bool) → (a && b) ≡ true → b ≡ true
 right-true true b e = e
 right-true false b e = let z : _≡_ {A = ℕ} 0 1 = cc in absurd (omega arith)
 

@@ -76,6 +76,10 @@ fitting message = leb (upstreamAddress message .0) 1023
 abbrev pub registrationId : List ℕ → List ℕ
 registrationId m = take 36 (drop 4 m)
 
+-- nothing where the slice is short
+abbrev pub registrationIdOf : List ℕ → List ℕ
+registrationIdOf m = cond (ltb (length m) messageOctets) [] (registrationId m)
+
 abbrev pub acknowledged : OnuId → ℕ → ℕ → Heard
 acknowledged onu seq code =
     cond (eqb code 0) (Said (Acknowledgement onu seq Ok))

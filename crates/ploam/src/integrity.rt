@@ -15,6 +15,7 @@ use super::MESSAGE_OCTETS;
 use super::REGISTRATION;
 use super::REQUEST_REGISTRATION;
 use super::SERIAL_NUMBER_ONU;
+use aes::RoundKeys;
 use aes::Words;
 use cmac::Prepared;
 use ids::OnuId;
@@ -42,7 +43,7 @@ fn with_code(code: u8, m: &[u8]) -> [u8; 41]
     b
 }
 
-pub(crate) fn mic(t: &[u32; 256], key: Prepared, direction: Direction, m: &[u8]) -> [u8; 8]
+pub(crate) fn mic(t: &[u32; 1024], key: Prepared, direction: Direction, m: &[u8]) -> [u8; 8]
     requires { ⌜ coveredOctets ≤ length (now m) ⌝ }
     ensures { λ r. ⌜ r ≡ mac64By (now (t .entry)) key (covered direction (now (m .entry))) ⌝ }
 {
@@ -64,7 +65,7 @@ fn has_mic(m: &[u8], mic: [u8; 8]) -> bool
     true
 }
 
-pub fn mic_right(t: &[u32; 256], key: Prepared, direction: Direction, m: &[u8]) -> bool
+pub fn mic_right(t: &[u32; 1024], key: Prepared, direction: Direction, m: &[u8]) -> bool
     ensures { λ r. ⌜ r ≡ micRightBy (now (t .entry)) key direction (now (m .entry)) ⌝ }
 {
     if m.len() < MESSAGE_OCTETS {
@@ -105,7 +106,7 @@ pub fn by_default(direction: Direction, address: OnuId, kind: u8) -> bool
 
 // Whether a downstream message's integrity field is right under its own key: the default key (`usual`, prepared) or the
 // installed one. Where none is installed, the caller gives the default for both.
-pub fn genuine(t: &[u32; 256], usual: Prepared, installed: Prepared, m: &[u8]) -> bool
+pub fn genuine(t: &[u32; 1024], usual: Prepared, installed: Prepared, m: &[u8]) -> bool
     ensures { λ r. ⌜ r ≡ genuineBy (now (t .entry)) usual installed (now (m .entry)) ⌝ }
 {
     if m.len() < MESSAGE_OCTETS {
@@ -123,74 +124,74 @@ pub fn default_key() -> Prepared
     ensures { λ r. ⌜ r ≡ preparedBy mixTable (wordsOf defaultKey) ⌝ }
 {
     Prepared {
-        keys: [
-            Words {
+        keys: RoundKeys {
+            k0: Words {
                 a: 0x55555555,
                 b: 0x55555555,
                 c: 0x55555555,
                 d: 0x55555555,
             },
-            Words {
+            k1: Words {
                 a: 0xa8a9a9a9,
                 b: 0xfdfcfcfc,
                 c: 0xa8a9a9a9,
                 d: 0xfdfcfcfc,
             },
-            Words {
+            k2: Words {
                 a: 0x1a1919fd,
                 b: 0xe7e5e501,
                 c: 0x4f4c4ca8,
                 d: 0xb2b0b054,
             },
-            Words {
+            k3: Words {
                 a: 0xf9fe39ca,
                 b: 0x1e1bdccb,
                 c: 0x51579063,
                 d: 0xe3e72037,
             },
-            Words {
+            k4: Words {
                 a: 0x6549a3db,
                 b: 0x7b527f10,
                 c: 0x2a05ef73,
                 d: 0xc9e2cf44,
             },
-            Words {
+            k5: Words {
                 a: 0xedc3b806,
                 b: 0x9691c716,
                 c: 0xbc942865,
                 d: 0x7576e721,
             },
-            Words {
+            k6: Words {
                 a: 0xf557459b,
                 b: 0x63c6828d,
                 c: 0xdf52aae8,
                 d: 0xaa244dc9,
             },
-            Words {
+            k7: Words {
                 a: 0x83b49837,
                 b: 0xe0721aba,
                 c: 0x3f20b052,
                 d: 0x9504fd9b,
             },
-            Words {
+            k8: Words {
                 a: 0xf1e08c1d,
                 b: 0x119296a7,
                 c: 0x2eb226f5,
                 d: 0xbbb6db6e,
             },
-            Words {
+            k9: Words {
                 a: 0xa45913f7,
                 b: 0xb5cb8550,
                 c: 0x9b79a3a5,
                 d: 0x20cf78cb,
             },
-            Words {
+            k10: Words {
                 a: 0x18e50c40,
                 b: 0xad2e8910,
                 c: 0x36572ab5,
                 d: 0x1698527e,
             },
-        ],
+        },
         whole: Words {
             a: 0x90919c63,
             b: 0xdc66fb31,

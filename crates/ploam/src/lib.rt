@@ -1,6 +1,7 @@
 // The messages of the PLOAM channel (G.987.3, clauses 11 and 15.6): 48 octets, read, checked and written.
 pub mod integrity;
 pub mod reading;
+pub mod upstream;
 pub mod writing;
 
 use ids::AllocId;

@@ -35,14 +35,14 @@ fn number16(m: &[u8], i: usize) -> u16
     join16(m[i], m[i + 1])
 }
 
-fn number32(m: &[u8], i: usize) -> u32
+pub(crate) fn number32(m: &[u8], i: usize) -> u32
     requires { ⌜ i + 4 ≤ length (now m) ⌝ }
     ensures { λ r. ⌜ r ≡ at32 (now (m .entry)) i ⌝ }
 {
     join32(number16(m, i), number16(m, i + 2))
 }
 
-fn serial_number(m: &[u8], i: usize) -> SerialNumber
+pub(crate) fn serial_number(m: &[u8], i: usize) -> SerialNumber
     requires { ⌜ i + 8 ≤ length (now m) ⌝ }
     ensures { λ r. ⌜ r ≡ serialAt (now (m .entry)) i ⌝ }
 {

@@ -209,7 +209,7 @@ fn lay(target: &mut [u8], at: usize, s: &[u8])
 
 // Lays octets 1 to 40 and their integrity field over the front of target.
 fn put(
-    t: &[u32; 256],
+    t: &[u32; 1024],
     key: Prepared,
     direction: Direction,
     fits: bool,
@@ -235,7 +235,7 @@ fn put(
 // Writes the message, signed with its own key: the default key (`usual`, prepared) or the installed one. Where none is
 // installed, the caller gives the default for both.
 pub fn write(
-    t: &[u32; 256],
+    t: &[u32; 1024],
     usual: Prepared,
     installed: Prepared,
     message: UpstreamMessage,

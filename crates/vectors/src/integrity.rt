@@ -201,7 +201,7 @@ fn fields(m: Message) {
     content(c);
 }
 
-fn downstream_message(t: &[u32; 256], usual: Prepared, installed: Prepared) {
+fn downstream_message(t: &[u32; 1024], usual: Prepared, installed: Prepared) {
     let m =
         b"\x00\x13\x0a\x03\x04\x45\x01\x00\x00\x00\x00\x00\x00\x00\x00\x00\x00\x00\x00\x00\x00\x00\x00\x00\x00\x00\x00\x00\x00\x00\x00\x00\x00\x00\x00\x00\x00\x00\x00\x00\x46\x39\x87\x56\x28\x08\x14\xe6";
     match ploam::reading::read(m) {
@@ -221,7 +221,7 @@ fn downstream_message(t: &[u32; 256], usual: Prepared, installed: Prepared) {
     line(b"IV.7", &mic);
 }
 
-fn upstream_message(t: &[u32; 256], installed: Prepared) {
+fn upstream_message(t: &[u32; 1024], installed: Prepared) {
     let mic = cmac::mac64(
         t,
         installed,
@@ -270,7 +270,7 @@ fn omci_message() {
 
 fn written(
     name: &[u8],
-    t: &[u32; 256],
+    t: &[u32; 1024],
     usual: Prepared,
     installed: Prepared,
     message: UpstreamMessage,
@@ -283,7 +283,7 @@ fn written(
     }
 }
 
-fn station_messages(t: &[u32; 256], usual: Prepared, installed: Prepared) {
+fn station_messages(t: &[u32; 1024], usual: Prepared, installed: Prepared) {
     let serial = SerialNumber {
         vendor: 0x564e4452,
         vssn: 0x00112233,

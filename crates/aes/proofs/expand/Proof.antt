@@ -1,53 +1,41 @@
+-- `aes::expand` meets its contract.
+-- Assumes nothing.
 use denote.Ref.{now}
 use Rattle.aes.proofs.Rounds.{eleven}
 use borrow.Author.Needs.{needs}
 use Rattle.aes.proofs.expand.Statement.{statement}
 use Rattle.aes.proofs.expand.Tie as tie
-use Rattle.aes.proofs.expand.Reads as reads
-use Rattle.aes.proofs.expand.Lts as lts
-use Rattle.aes.proofs.next_key.Reads as next-key-reads
 
--- src/lib.rt:422:9
 next-key-requires : tie.Need-next-key-requires
 next-key-requires c κs = search needs
 
--- src/lib.rt:423:9
 next-key-requires-2 : tie.Need-next-key-requires-2
 next-key-requires-2 c κs = search needs
 
--- src/lib.rt:424:9
 next-key-requires-3 : tie.Need-next-key-requires-3
 next-key-requires-3 c κs = search needs
 
--- src/lib.rt:425:9
 next-key-requires-4 : tie.Need-next-key-requires-4
 next-key-requires-4 c κs = search needs
 
--- src/lib.rt:426:9
 next-key-requires-5 : tie.Need-next-key-requires-5
 next-key-requires-5 c κs = search needs
 
--- src/lib.rt:427:9
 next-key-requires-6 : tie.Need-next-key-requires-6
 next-key-requires-6 c κs = search needs
 
--- src/lib.rt:428:9
 next-key-requires-7 : tie.Need-next-key-requires-7
 next-key-requires-7 c κs = search needs
 
--- src/lib.rt:429:9
 next-key-requires-8 : tie.Need-next-key-requires-8
 next-key-requires-8 c κs = search needs
 
--- src/lib.rt:430:9
 next-key-requires-9 : tie.Need-next-key-requires-9
 next-key-requires-9 c κs = search needs
 
--- src/lib.rt:431:9
 next-key-requires-10 : tie.Need-next-key-requires-10
 next-key-requires-10 c κs = search needs
 
--- src/lib.rt:418:1
 returns : tie.Need-returns
 returns c =
     let c10 = c in

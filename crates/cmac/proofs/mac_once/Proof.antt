@@ -1,3 +1,5 @@
+-- `cmac::mac_once` meets its contract.
+-- Assumes nothing.
 use mathlib.Core.Path.{_≡_, _∙_, ap}
 use native.Mathlib.Omega.{arith}
 use denote.Ref.{now}
@@ -10,20 +12,13 @@ use Rattle.cmac.proofs.Macs.{mac-by-mix-table}
 use borrow.Author.Needs.{needs}
 use Rattle.cmac.proofs.mac_once.Statement.{statement}
 use Rattle.cmac.proofs.mac_once.Tie as tie
-use Rattle.cmac.proofs.mac_once.Reads as reads
-use Rattle.cmac.proofs.mac_once.Lts as lts
-use Rattle.cmac.proofs.mac.Reads as mac-reads
-use Rattle.cmac.proofs.prepare.Reads as prepare-reads
 
--- src/lib.rt:183:9
 prepare-requires : tie.Need-prepare-requires
 prepare-requires c κs = search needs
 
--- src/lib.rt:184:5
 mac-requires : tie.Need-mac-requires
 mac-requires c κs = search needs
 
--- src/lib.rt:179:1
 returns : tie.Need-returns
 unfolding mixTable
 returns c =

@@ -1,3 +1,5 @@
+-- `ploam::integrity::has_mic` meets its contract.
+-- Assumes nothing.
 use mathlib.Core.Path.{_≡_, _∙_, refl, sym}
 use Prim.Native.Nat.{_≤_, _<_, _-_}
 use native.Mathlib.Omega.{arith}
@@ -9,8 +11,6 @@ use Rattle.ploam.specs.Integrity.{same}
 use Rattle.ploam.proofs.Same.{same-more, same-not, same-end, field-at, field-length}
 use Rattle.ploam.proofs.integrity.has_mic.Statement.{statement}
 use Rattle.ploam.proofs.integrity.has_mic.Tie as tie
-use Rattle.ploam.proofs.integrity.has_mic.Reads as reads
-use Rattle.ploam.proofs.integrity.has_mic.Lts as lts
 
 abbrev Inv-loop : tie.InvT-loop
 Inv-loop m mic i₀ i = (i ≤ 8) × (same (drop i (micField m)) (drop i mic) ≡ same (micField m) mic)
@@ -18,23 +18,18 @@ Inv-loop m mic i₀ i = (i ≤ 8) × (same (drop i (micField m)) (drop i mic) �
 abbrev μ-loop : tie.MeasureT-loop
 μ-loop m mic i₀ i = 8 - i
 
--- src/integrity.rt:53:5
 loop-holds : tie.Need-loop-holds Inv-loop μ-loop
 loop-holds c = (omega arith, refl)
 
--- src/integrity.rt:54:14
 add-if1 : tie.Need-add-if1 Inv-loop μ-loop
 add-if1 c = search needs
 
--- src/integrity.rt:54:12
 shared-slice-read-if1 : tie.Need-shared-slice-read-if1 Inv-loop μ-loop
 shared-slice-read-if1 c = search needs
 
--- src/integrity.rt:54:37
 array-read-if1 : tie.Need-array-read-if1 Inv-loop μ-loop
 array-read-if1 c = search needs
 
--- src/integrity.rt:55:13
 returns : tie.Need-returns Inv-loop μ-loop
 returns c =
     let at = c .before .before .before in
@@ -46,15 +41,12 @@ returns c =
     same-not (micField m) (at .before .args .t2) i (omega arith) (omega arith) (λ e. c .if1 .taken (sym (field-at m i h) ∙ e))
     ∙ at .loop .inv .1
 
--- src/integrity.rt:57:9
 add-i : tie.Need-add-i Inv-loop μ-loop
 add-i c = search needs
 
--- src/integrity.rt:53:5
 loop-less : tie.Need-loop-less Inv-loop μ-loop
 loop-less c = search needs
 
--- src/integrity.rt:53:5
 loop-again : tie.Need-loop-again Inv-loop μ-loop
 loop-again c =
     let at = c .before .before .before in
@@ -67,7 +59,6 @@ loop-again c =
       same-more (micField m) (at .before .args .t2) i (omega arith) (omega arith) (field-at m i h ∙ c .if1 .left) ∙ at .loop .inv .1,
     )
 
--- src/integrity.rt:48:1
 returns-2 : tie.Need-returns-2 Inv-loop μ-loop
 returns-2 c =
     let at = c .before in

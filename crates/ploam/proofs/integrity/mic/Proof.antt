@@ -1,3 +1,5 @@
+-- `ploam::integrity::mic` meets its contract.
+-- Assumes nothing.
 use mathlib.Core.Path.{_∙_, ap}
 use mathlib.Core.List.{_∷_}
 use Prim.Native.Nat.{ℕ}
@@ -8,29 +10,19 @@ use Rattle.ploam.specs.Layout.{coveredOctets}
 use borrow.Author.Needs.{needs}
 use Rattle.ploam.proofs.integrity.mic.Statement.{statement}
 use Rattle.ploam.proofs.integrity.mic.Tie as tie
-use Rattle.ploam.proofs.integrity.mic.Reads as reads
-use Rattle.ploam.proofs.integrity.mic.Lts as lts
-use Rattle.cmac.proofs.mac64.Reads as mac64-reads
-use Rattle.ploam.proofs.integrity.direction_code.Reads as direction-code-reads
-use Rattle.ploam.proofs.integrity.with_code.Reads as with-code-reads
 
--- src/integrity.rt:44:23
 direction-code-requires : tie.Need-direction-code-requires
 direction-code-requires c κs = search needs
 
--- src/integrity.rt:44:13
 with-code-requires : tie.Need-with-code-requires
 with-code-requires c κs = search needs
 
--- src/integrity.rt:45:25
 slice-aggregate-mac64 : tie.Need-slice-aggregate-mac64
 slice-aggregate-mac64 c = search needs
 
--- src/integrity.rt:45:5
 mac64-requires : tie.Need-mac64-requires
 mac64-requires c κs = search needs
 
--- src/integrity.rt:40:1
 returns : tie.Need-returns
 returns c =
     let args = c .before .before .before .before .before .args in

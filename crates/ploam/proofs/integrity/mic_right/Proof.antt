@@ -1,3 +1,5 @@
+-- `ploam::integrity::mic_right` meets its contract.
+-- Assumes nothing.
 use mathlib.Core.Path.{_∙_, ap}
 use borrow.Author.Tests.{le-leb, lt-leb}
 use denote.Ref.{now}
@@ -7,25 +9,17 @@ use Rattle.ploam.specs.Integrity.{same, micRightBy}
 use borrow.Author.Needs.{needs}
 use Rattle.ploam.proofs.integrity.mic_right.Statement.{statement}
 use Rattle.ploam.proofs.integrity.mic_right.Tie as tie
-use Rattle.ploam.proofs.integrity.mic_right.Reads as reads
-use Rattle.ploam.proofs.integrity.mic_right.Lts as lts
-use Rattle.ploam.proofs.integrity.has_mic.Reads as has-mic-reads
-use Rattle.ploam.proofs.integrity.mic.Reads as mic-reads
 
--- src/integrity.rt:66:9
 returns : tie.Need-returns
 unfolding micRightBy
 returns c = simp (lt-leb messageOctets (length (now (c .before .before .args .m))) (c .if1 .taken))
 
--- src/integrity.rt:68:16
 mic-requires : tie.Need-mic-requires
 mic-requires c κs = search needs
 
--- src/integrity.rt:68:5
 has-mic-requires : tie.Need-has-mic-requires
 has-mic-requires c κs = search needs
 
--- src/integrity.rt:62:1
 returns-2 : tie.Need-returns-2
 unfolding micRightBy
 returns-2 c =

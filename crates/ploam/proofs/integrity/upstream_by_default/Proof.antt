@@ -1,14 +1,12 @@
+-- `ploam::integrity::upstream_by_default` meets its contract.
+-- Assumes nothing.
 use borrow.Author.Tests.{eq-eqb, ne-eqb}
 use Rattle.ploam.proofs.integrity.upstream_by_default.Statement.{statement}
 use Rattle.ploam.proofs.integrity.upstream_by_default.Tie as tie
-use Rattle.ploam.proofs.integrity.upstream_by_default.Reads as reads
-use Rattle.ploam.proofs.integrity.upstream_by_default.Lts as lts
 
--- src/integrity.rt:87:9
 returns : tie.Need-returns
 returns c = simp (eq-eqb _ _ (c .if1 .taken))
 
--- src/integrity.rt:83:1
 returns-2 : tie.Need-returns-2
 returns-2 c = simp (ne-eqb _ _ (c .if1 .left))
 

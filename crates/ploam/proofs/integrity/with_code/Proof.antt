@@ -1,3 +1,5 @@
+-- `ploam::integrity::with_code` meets its contract.
+-- Assumes nothing.
 use mathlib.Core.Path.{_≡_, _∙_, sym, ap}
 use mathlib.Core.List.{List, [], _∷_, append-nil}
 use Prim.Native.Nat.{ℕ, _+_, _-_, _≤_, _<_}
@@ -10,8 +12,6 @@ use denote.Ref.{now}
 use borrow.Author.Needs.{needs}
 use Rattle.ploam.proofs.integrity.with_code.Statement.{statement}
 use Rattle.ploam.proofs.integrity.with_code.Tie as tie
-use Rattle.ploam.proofs.integrity.with_code.Reads as reads
-use Rattle.ploam.proofs.integrity.with_code.Lts as lts
 
 abbrev Inv-loop : tie.InvT-loop
 Inv-loop code m b₀ i₀ b i = (i ≤ 40) × (b ≡ paste (code ∷ replicate 40 0) 1 m i)
@@ -19,35 +19,27 @@ Inv-loop code m b₀ i₀ b i = (i ≤ 40) × (b ≡ paste (code ∷ replicate 4
 abbrev μ-loop : tie.MeasureT-loop
 μ-loop code m b₀ i₀ b i = 40 - i
 
--- src/lib.rt:15:5
 array-write-b : tie.Need-array-write-b Inv-loop μ-loop
 array-write-b c = search needs
 
--- src/lib.rt:17:5
 loop-holds : tie.Need-loop-holds Inv-loop μ-loop
 loop-holds c = (omega arith, paste-zero (c .args .code ∷ replicate 40 0) 1 (now (c .args .m)))
 
--- src/lib.rt:18:20
 shared-slice-read-b : tie.Need-shared-slice-read-b Inv-loop μ-loop
 shared-slice-read-b c = search needs
 
--- src/lib.rt:18:11
 add-b : tie.Need-add-b Inv-loop μ-loop
 add-b c = search needs
 
--- src/lib.rt:18:9
 array-write-b-2 : tie.Need-array-write-b-2 Inv-loop μ-loop
 array-write-b-2 c = search needs
 
--- src/lib.rt:19:9
 add-i : tie.Need-add-i Inv-loop μ-loop
 add-i c = search needs
 
--- src/lib.rt:17:5
 loop-less : tie.Need-loop-less Inv-loop μ-loop
 loop-less c = search needs
 
--- src/lib.rt:17:5
 loop-again : tie.Need-loop-again Inv-loop μ-loop
 loop-again c =
     let at = c .before .before in
@@ -63,7 +55,6 @@ loop-again c =
           ∙ ap (λ (n : ℕ). paste d 1 m n) (sym (add-one i)),
     )
 
--- src/lib.rt:10:1
 returns : tie.Need-returns Inv-loop μ-loop
 returns c =
     let at = c .before in

@@ -1,15 +1,12 @@
+-- `ploam::reading::onu_in` meets its contract.
+-- Assumes nothing.
 use borrow.Author.Needs.{needs}
 use Rattle.ploam.proofs.reading.onu_in.Statement.{statement}
 use Rattle.ploam.proofs.reading.onu_in.Tie as tie
-use Rattle.ploam.proofs.reading.onu_in.Reads as reads
-use Rattle.ploam.proofs.reading.onu_in.Lts as lts
-use Rattle.ploam.proofs.reading.number16.Reads as number16-reads
 
--- src/reading.rt:59:11
 number16-requires : tie.Need-number16-requires
 number16-requires c κs = search needs
 
--- src/reading.rt:55:1
 returns : tie.Need-returns
 returns c = cc
 

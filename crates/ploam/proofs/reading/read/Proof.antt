@@ -1,3 +1,5 @@
+-- `ploam::reading::read` meets its contract.
+-- Assumes nothing.
 use mathlib.Core.Path.{ap₂}
 use borrow.Author.Tests.{lt-ltb, le-ltb}
 use denote.Ref.{now}
@@ -10,29 +12,20 @@ use Rattle.ploam.specs.declared.Received.the-variants.{Whole}
 use borrow.Author.Needs.{needs}
 use Rattle.ploam.proofs.reading.read.Statement.{statement}
 use Rattle.ploam.proofs.reading.read.Tie as tie
-use Rattle.ploam.proofs.reading.read.Reads as reads
-use Rattle.ploam.proofs.reading.read.Lts as lts
-use Rattle.ploam.proofs.reading.address.Reads as address-reads
-use Rattle.ploam.proofs.reading.content.Reads as content-reads
 
--- src/reading.rt:126:9
 returns : tie.Need-returns
 unfolding received
 returns c = simp (lt-ltb _ _ (c .if1 .taken))
 
--- src/reading.rt:129:18
 address-requires : tie.Need-address-requires
 address-requires c κs = search needs
 
--- src/reading.rt:130:14
 shared-slice-read-t6 : tie.Need-shared-slice-read-t6
 shared-slice-read-t6 c = search needs
 
--- src/reading.rt:131:18
 content-requires : tie.Need-content-requires
 content-requires c κs = search needs
 
--- src/reading.rt:122:1
 returns-2 : tie.Need-returns-2
 unfolding received
 returns-2 c =

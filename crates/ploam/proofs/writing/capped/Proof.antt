@@ -1,14 +1,12 @@
+-- `ploam::writing::capped` meets its contract.
+-- Assumes nothing.
 use borrow.Author.Tests.{lt-ltb, le-ltb}
 use Rattle.ploam.proofs.writing.capped.Statement.{statement}
 use Rattle.ploam.proofs.writing.capped.Tie as tie
-use Rattle.ploam.proofs.writing.capped.Reads as reads
-use Rattle.ploam.proofs.writing.capped.Lts as lts
 
--- src/writing.rt:22:1
 returns : tie.Need-returns
 returns c = simp (lt-ltb _ _ (c .if1 .taken))
 
--- src/writing.rt:22:1
 returns-2 : tie.Need-returns-2
 returns-2 c = simp (le-ltb _ _ (c .if1 .left))
 

@@ -1,3 +1,5 @@
+-- `ploam::writing::lay` meets its contract.
+-- Assumes nothing.
 use mathlib.Core.Path.{_≡_, _∙_, refl, sym, ap}
 use mathlib.Core.List.{List}
 use Prim.Native.Nat.{ℕ, _+_, _-_, _≤_, _<_}
@@ -9,8 +11,6 @@ use lib.ListN.{length, getD, set, length-set}
 use lib.Seq.{paste, paste-zero, paste-suc}
 use Rattle.ploam.proofs.writing.lay.Statement.{statement}
 use Rattle.ploam.proofs.writing.lay.Tie as tie
-use Rattle.ploam.proofs.writing.lay.Reads as reads
-use Rattle.ploam.proofs.writing.lay.Lts as lts
 
 abbrev Inv-loop : tie.InvT-loop
 Inv-loop target₀ at s i₀ target i = (i ≤ length s) × (length target ≡ length target₀) × (target ≡ paste target₀ at s i)
@@ -18,31 +18,24 @@ Inv-loop target₀ at s i₀ target i = (i ≤ length s) × (length target ≡ l
 abbrev μ-loop : tie.MeasureT-loop
 μ-loop target₀ at s i₀ target i = length s - i
 
--- src/writing.rt:193:5
 loop-holds : tie.Need-loop-holds Inv-loop μ-loop
 loop-holds c = (omega arith, refl, paste-zero (now (c .args .target)) (c .args .at) (now (c .args .s)))
 
--- src/writing.rt:194:26
 shared-slice-read-target : tie.Need-shared-slice-read-target Inv-loop μ-loop
 shared-slice-read-target c = search needs
 
--- src/writing.rt:194:16
 add-target : tie.Need-add-target Inv-loop μ-loop
 add-target c = omega (arith, c .before .before .before .good)
 
--- src/writing.rt:194:9
 slice-write-target : tie.Need-slice-write-target Inv-loop μ-loop
 slice-write-target c = search needs
 
--- src/writing.rt:195:9
 add-i : tie.Need-add-i Inv-loop μ-loop
 add-i c = search needs
 
--- src/writing.rt:193:5
 loop-less : tie.Need-loop-less Inv-loop μ-loop
 loop-less c = search needs
 
--- src/writing.rt:193:5
 loop-again : tie.Need-loop-again Inv-loop μ-loop
 loop-again c =
     let at = c .before .before in
@@ -59,11 +52,9 @@ loop-again c =
           ∙ ap (λ (n : ℕ). paste d (args .at) s n) (sym (add-one i)),
     )
 
--- src/writing.rt:188:1
 same-length : tie.Need-same-length Inv-loop μ-loop
 same-length c = c .before .loop .inv .1
 
--- src/writing.rt:188:1
 returns : tie.Need-returns Inv-loop μ-loop
 returns c =
     let at = c .before in

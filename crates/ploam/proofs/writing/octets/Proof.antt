@@ -1,3 +1,5 @@
+-- `ploam::writing::octets` meets its contract.
+-- Assumes nothing.
 use mathlib.Core.List.{_∷_, _++_}
 use Prim.Native.Nat.{ℕ}
 use lib.ListN.{replicate}
@@ -7,47 +9,31 @@ use Rattle.ploam.specs.Upstream.{octets16, octets32, upstreamOctets}
 use borrow.Author.Needs.{needs}
 use Rattle.ploam.proofs.writing.octets.Statement.{statement}
 use Rattle.ploam.proofs.writing.octets.Tie as tie
-use Rattle.ploam.proofs.writing.octets.Reads as reads
-use Rattle.ploam.proofs.writing.octets.Lts as lts
-use Rattle.ploam.proofs.writing.acknowledgement_octets.Reads as acknowledgement-octets-reads
-use Rattle.ploam.proofs.writing.capped.Reads as capped-reads
-use Rattle.ploam.proofs.writing.completion_code.Reads as completion-code-reads
-use Rattle.ploam.proofs.writing.registration_octets.Reads as registration-octets-reads
-use Rattle.ploam.proofs.writing.serial_octets.Reads as serial-octets-reads
 
--- src/writing.rt:161:42
 enum-known-message : tie.Need-enum-known-message
 enum-known-message c = search needs
 
--- src/writing.rt:161:82
 capped-requires : tie.Need-capped-requires
 capped-requires c κs = search needs
 
--- src/writing.rt:161:60
 serial-octets-requires : tie.Need-serial-octets-requires
 serial-octets-requires c κs = search needs
 
--- src/writing.rt:162:39
 enum-known-message-2 : tie.Need-enum-known-message-2
 enum-known-message-2 c = search needs
 
--- src/writing.rt:162:52
 registration-octets-requires : tie.Need-registration-octets-requires
 registration-octets-requires c κs = search needs
 
--- src/writing.rt:163:42
 enum-known-message-3 : tie.Need-enum-known-message-3
 enum-known-message-3 c = search needs
 
--- src/writing.rt:163:94
 completion-code-requires : tie.Need-completion-code-requires
 completion-code-requires c κs = search needs
 
--- src/writing.rt:163:61
 acknowledgement-octets-requires : tie.Need-acknowledgement-octets-requires
 acknowledgement-octets-requires c κs = search needs
 
--- src/writing.rt:157:1
 returns : tie.Need-returns
 unfolding upstreamOctets
 returns c =
@@ -59,12 +45,10 @@ returns c =
     octets16 1023 ++ serialNumberOnu ∷ 0 ∷ (octets32 (serial .vendor) ++ octets32 (serial .vssn) ++ octets32 d ++ replicate 24 0))
     (c .before .capped .ensures))
 
--- src/writing.rt:157:1
 returns-2 : tie.Need-returns-2
 unfolding upstreamOctets
 returns-2 c = rw (c .before .before .message2 .given .1) (c .registration-octets .ensures)
 
--- src/writing.rt:157:1
 returns-3 : tie.Need-returns-3
 unfolding upstreamOctets
 returns-3 c =

@@ -1,3 +1,5 @@
+-- `ploam::writing::put` meets its contract.
+-- Assumes nothing.
 use mathlib.Core.Path.{_∙_, refl, ap}
 use mathlib.Core.List.{List}
 use Prim.Native.Nat.{ℕ}
@@ -12,12 +14,7 @@ use Rattle.ploam.proofs.Laid.{laid-wide, laid-short, laid-done}
 use borrow.Author.Needs.{needs}
 use Rattle.ploam.proofs.writing.put.Statement.{statement}
 use Rattle.ploam.proofs.writing.put.Tie as tie
-use Rattle.ploam.proofs.writing.put.Reads as reads
-use Rattle.ploam.proofs.writing.put.Lts as lts
-use Rattle.ploam.proofs.integrity.mic.Reads as mic-reads
-use Rattle.ploam.proofs.writing.lay.Reads as lay-reads
 
--- src/writing.rt:206:13
 returns : tie.Need-returns
 returns c =
     let start = c .before .before .before .before in
@@ -29,27 +26,21 @@ returns c =
       known = λ i. omega (arith, c .before .before .before .shared-slice-known .given i);
     }
 
--- src/writing.rt:208:19
 mic-requires : tie.Need-mic-requires
 mic-requires c κs = search needs
 
--- src/writing.rt:209:9
 lay-requires : tie.Need-lay-requires
 lay-requires c κs = search needs
 
--- src/writing.rt:210:37
 slice-aggregate-lay : tie.Need-slice-aggregate-lay
 slice-aggregate-lay c = search needs
 
--- src/writing.rt:210:9
 lay-requires-2 : tie.Need-lay-requires-2
 lay-requires-2 c κs = search needs
 
--- src/writing.rt:200:1
 same-length : tie.Need-same-length
 same-length c = search needs
 
--- src/writing.rt:200:1
 returns-2 : tie.Need-returns-2
 returns-2 c =
     let called = c .before .before .before .before .before .before .before .before .before in
@@ -66,7 +57,6 @@ returns-2 c =
       known = λ i. omega (arith, known .shared-slice-known .given i);
     }
 
--- src/writing.rt:200:1
 returns-3 : tie.Need-returns-3
 returns-3 c =
     let args = c .before .before .before .args in

@@ -1,3 +1,5 @@
+-- `ploam::writing::registration_octets` meets its contract.
+-- Assumes nothing.
 use mathlib.Core.Path.{_≡_, _∙_, refl, sym, ap}
 use mathlib.Core.List.{List, _∷_, _++_, append-nil}
 use Prim.Native.Nat.{ℕ, _+_, _-_, _≤_, _<_}
@@ -10,8 +12,6 @@ use Rattle.ploam.specs.Layout.{registration}
 use Rattle.ploam.specs.Upstream.{octets16}
 use Rattle.ploam.proofs.writing.registration_octets.Statement.{statement}
 use Rattle.ploam.proofs.writing.registration_octets.Tie as tie
-use Rattle.ploam.proofs.writing.registration_octets.Reads as reads
-use Rattle.ploam.proofs.writing.registration_octets.Lts as lts
 
 abbrev Inv-loop : tie.InvT-loop
 Inv-loop seq id b₀ i₀ b i = (i ≤ 36) × (length b ≡ 40) × (b ≡ paste b₀ 4 id i)
@@ -19,58 +19,45 @@ Inv-loop seq id b₀ i₀ b i = (i ≤ 36) × (length b ≡ 40) × (b ≡ paste 
 abbrev μ-loop : tie.MeasureT-loop
 μ-loop seq id b₀ i₀ b i = 36 - i
 
--- src/writing.rt:98:12
 cast-b : tie.Need-cast-b Inv-loop μ-loop
 cast-b c = search needs
 
--- src/writing.rt:98:5
 array-write-b : tie.Need-array-write-b Inv-loop μ-loop
 array-write-b c = search needs
 
--- src/writing.rt:99:12
 cast-b-2 : tie.Need-cast-b-2 Inv-loop μ-loop
 cast-b-2 c = search needs
 
--- src/writing.rt:99:5
 array-write-b-2 : tie.Need-array-write-b-2 Inv-loop μ-loop
 array-write-b-2 c = search needs
 
--- src/writing.rt:100:5
 array-write-b-3 : tie.Need-array-write-b-3 Inv-loop μ-loop
 array-write-b-3 c = search needs
 
--- src/writing.rt:101:5
 array-write-b-4 : tie.Need-array-write-b-4 Inv-loop μ-loop
 array-write-b-4 c = search needs
 
--- src/writing.rt:103:5
 loop-holds : tie.Need-loop-holds Inv-loop μ-loop
 loop-holds c =
     let args = c .before .before .args in
     let b = octets16 (args .onu .0) ++ registration ∷ args .seq ∷ replicate 36 0 in
     (omega arith, refl, paste-zero b 4 (args .t3))
 
--- src/writing.rt:104:20
 array-read-b : tie.Need-array-read-b Inv-loop μ-loop
 array-read-b c = search needs
 
--- src/writing.rt:104:11
 add-b : tie.Need-add-b Inv-loop μ-loop
 add-b c = search needs
 
--- src/writing.rt:104:9
 array-write-b-5 : tie.Need-array-write-b-5 Inv-loop μ-loop
 array-write-b-5 c = search needs
 
--- src/writing.rt:105:9
 add-i : tie.Need-add-i Inv-loop μ-loop
 add-i c = search needs
 
--- src/writing.rt:103:5
 loop-less : tie.Need-loop-less Inv-loop μ-loop
 loop-less c = search needs
 
--- src/writing.rt:103:5
 loop-again : tie.Need-loop-again Inv-loop μ-loop
 loop-again c =
     let at = c .before in
@@ -87,7 +74,6 @@ loop-again c =
           ∙ ap (λ (n : ℕ). paste d 4 (args .t3) n) (sym (add-one i)),
     )
 
--- src/writing.rt:94:1
 returns : tie.Need-returns Inv-loop μ-loop
 returns c =
     let at = c .before in

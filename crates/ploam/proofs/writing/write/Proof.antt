@@ -1,3 +1,5 @@
+-- `ploam::writing::write` meets its contract.
+-- Assumes nothing.
 use mathlib.Core.Path.{_≡_, _∙_, sym, ap}
 use mathlib.Core.Bool.{Bool, true, false, cond}
 use denote.Ref.{now}
@@ -8,51 +10,34 @@ use Rattle.ploam.proofs.Laid.{write-of}
 use borrow.Author.Needs.{needs}
 use Rattle.ploam.proofs.writing.write.Statement.{statement}
 use Rattle.ploam.proofs.writing.write.Tie as tie
-use Rattle.ploam.proofs.writing.write.Reads as reads
-use Rattle.ploam.proofs.writing.write.Lts as lts
-use Rattle.ploam.proofs.integrity.by_default.Reads as by-default-reads
-use Rattle.ploam.proofs.writing.kind.Reads as kind-reads
-use Rattle.ploam.proofs.writing.octets.Reads as octets-reads
-use Rattle.ploam.proofs.writing.put.Reads as put-reads
-use Rattle.ploam.proofs.writing.sender.Reads as sender-reads
 
--- src/writing.rt:229:13
 octets-requires : tie.Need-octets-requires
 octets-requires c κs = search needs
 
--- src/writing.rt:230:9
 sender-requires : tie.Need-sender-requires
 sender-requires c κs = search needs
 
--- src/writing.rt:232:63
 kind-requires : tie.Need-kind-requires
 kind-requires c κs = search needs
 
--- src/writing.rt:232:8
 by-default-requires : tie.Need-by-default-requires
 by-default-requires c κs = search needs
 
--- src/writing.rt:233:50
 slice-aggregate-put : tie.Need-slice-aggregate-put
 slice-aggregate-put c = search needs
 
--- src/writing.rt:233:9
 put-requires : tie.Need-put-requires
 put-requires c κs = search needs
 
--- src/writing.rt:235:54
 slice-aggregate-put-2 : tie.Need-slice-aggregate-put-2
 slice-aggregate-put-2 c = search needs
 
--- src/writing.rt:235:9
 put-requires-2 : tie.Need-put-requires-2
 put-requires-2 c κs = search needs
 
--- src/writing.rt:219:1
 same-length : tie.Need-same-length
 same-length c = search needs
 
--- src/writing.rt:219:1
 returns : tie.Need-returns
 returns c =
     let start = c .before .before .before .before .before .before .before .before .before .before .before .before in
@@ -67,11 +52,9 @@ returns c =
     (c .before .before .before .before .before .before .before .before .before .before .octets .result) (onu .result) _ (c .before .before .before .before .before .before .before .before .before .before .octets .ensures) (onu .ensures)
     (sym (ap (λ (b : Bool). cond b (args .usual) (args .installed)) e)) (c .before .before .put .ensures)
 
--- src/writing.rt:219:1
 same-length-2 : tie.Need-same-length-2
 same-length-2 c = search needs
 
--- src/writing.rt:219:1
 returns-2 : tie.Need-returns-2
 returns-2 c =
     let start = c .before .before .before .before .before .before .before .before .before .before .before .before in
