@@ -1,0 +1,56 @@
+-- The messages of a frame: "Messages act one after another, each on the state left by the last".
+-- Assumes nothing.
+use Prim.Native.Nat.{ℕ, zero, suc, _+_, _*_, _/_}
+use mathlib.Core.Path.{_≡_}
+use mathlib.Core.Bool.{Bool, cond}
+use mathlib.Core.List.{List, [], _∷_}
+use lib.ListN.{length, take, drop}
+use Rattle.cmac.specs.declared.Prepared.{Prepared}
+use Rattle.ploam.specs.Layout.{messageOctets}
+use Rattle.ploam.specs.Reading.{received}
+use Rattle.ploam.specs.Integrity.{installedKey, genuine, genuineBy}
+use Rattle.ploam.specs.declared.Received.{Received}
+use Rattle.ploam.specs.declared.Received.the-variants.{Whole, Short}
+use Rattle.station.specs.declared.Station.{Station}
+use Rattle.effects.specs.Acts.{act}
+
+-- a message acts on the state in which it is considered, and is checked by the key held then
+abbrev pub acting : Station → Bool → Received → Station
+acting s isGenuine (Whole message) = act s isGenuine message
+acting s isGenuine Short = s
+
+unfoldable pub receive : Station → List ℕ → Station
+receive s m = acting s (genuine (installedKey (s .link .key .held) (s .link .key .octets)) m) (received m)
+
+-- message i of the octets, from 0, and the k messages from it on
+abbrev pub messageAt : List ℕ → ℕ → List ℕ
+messageAt b i = take messageOctets (drop (messageOctets * i) b)
+
+abbrev pub messagesFrom : List ℕ → ℕ → ℕ → List (List ℕ)
+messagesFrom b i zero = []
+messagesFrom b i (suc k) = messageAt b i ∷ messagesFrom b (i + 1) k
+
+abbrev pub messagesIn : List ℕ → List (List ℕ)
+messagesIn b = messagesFrom b 0 (length b / messageOctets)
+
+abbrev pub receiveAll : Station → List (List ℕ) → Station
+receiveAll s [] = s
+receiveAll s (m ∷ l) = receiveAll (receive s m) l
+
+abbrev pub AllReceived : Station → List ℕ → Station → Type 0
+AllReceived s b r = r ≡ receiveAll s (messagesIn b)
+
+-- ---- the same by a lent table and prepared keys, for every table and prepared key
+
+unfoldable pub genuineNow : List ℕ → Prepared → Prepared → Bool → List ℕ → Bool
+genuineNow t usual installed held m = genuineBy t usual (cond held installed usual) m
+
+unfoldable pub receivedBy : List ℕ → Prepared → Prepared → Station → List ℕ → Station
+receivedBy t usual installed s m = acting s (genuineNow t usual installed (s .link .key .held) m) (received m)
+
+abbrev pub receivedEachBy : List ℕ → Prepared → Prepared → Station → List (List ℕ) → Station
+receivedEachBy t usual installed s [] = s
+receivedEachBy t usual installed s (m ∷ l) = receivedEachBy t usual installed (receivedBy t usual installed s m) l
+
+abbrev pub receivedAllBy : List ℕ → Prepared → Prepared → Station → List ℕ → Station
+receivedAllBy t usual installed s b = receivedEachBy t usual installed s (messagesIn b)

@@ -1,0 +1,93 @@
+// The messages of a frame act one after another, each on the state left by the last.
+ghost use mathlib.Core.Bool.{Bool};
+ghost use mathlib.Core.Path.{_≡_};
+ghost use lib.ListN.{length};
+ghost use Rattle.cmac.specs.ByTable.{Ready};
+ghost use Rattle.station.specs.Limits.{keyOctets};
+ghost use Rattle.activation.specs.Receiving.{genuineNow, receivedBy, receivedAllBy, AllReceived};
+
+pub mod replying;
+
+use cmac::Prepared;
+use ploam::Received;
+use station::Station;
+
+// Octets of a message.
+const MESSAGE_OCTETS: usize = 48;
+
+// The key that counts is the one held as the message is considered.
+fn genuine_now(t: &[u32; 1024], usual: Prepared, installed: Prepared, held: bool, m: &[u8]) -> bool
+    ensures { λ r. ⌜ r ≡ genuineNow (now (t .entry)) usual installed held (now (m .entry)) ⌝ }
+{
+    if held {
+        return ploam::integrity::genuine(t, usual, installed, m);
+    }
+    ploam::integrity::genuine(t, usual, usual, m)
+}
+
+// The integrity check is made last: it costs most, and a failed test of any kind ignores the message.
+fn receive(t: &[u32; 1024], usual: Prepared, installed: Prepared, s: Station, m: &[u8]) -> Station
+    ensures { λ r. ⌜ r ≡ receivedBy (now (t .entry)) usual installed s (now (m .entry)) ⌝ }
+{
+    match ploam::reading::read(m) {
+        Received::Whole(message) => {
+            let e = effects::decide(s, message);
+            if e.is_ignored() {
+                return s;
+            }
+            let link = s.link;
+            let key = link.key;
+            if genuine_now(t, usual, installed, key.held, m) {
+                return effects::apply(s, e);
+            }
+            s
+        }
+        Received::Short => s,
+    }
+}
+
+fn receive_each(
+    t: &[u32; 1024],
+    usual: Prepared,
+    installed: Prepared,
+    s: Station,
+    messages: &[u8],
+) -> Station
+    ensures { λ r. ⌜ r ≡ receivedAllBy (now (t .entry)) usual installed s (now (messages .entry)) ⌝ }
+{
+    let n = messages.len() / MESSAGE_OCTETS;
+    let mut next = s;
+    let mut i: usize = 0;
+    while i < n {
+        let at = MESSAGE_OCTETS * i;
+        let end = at + MESSAGE_OCTETS;
+        next = receive(t, usual, installed, next, &messages[at..end]);
+        i += 1;
+    }
+    next
+}
+
+fn prepared(t: &[u32; 1024], octets: [u8; 16]) -> Prepared
+    ensures { λ r. ⌜ (Ready (now (t .entry)) octets r) × (length octets ≡ keyOctets) ⌝ }
+{
+    cmac::prepare(t, octets)
+}
+
+// What follows the last whole message is not looked at.
+pub fn receive_all(s: Station, messages: &[u8]) -> Station
+    ensures { λ r. ⌜ AllReceived s (now (messages .entry)) r ⌝ }
+{
+    if messages.len() < MESSAGE_OCTETS {
+        return s;
+    }
+    let t = aes::MIX;
+    let usual = ploam::integrity::default_key();
+    let link = s.link;
+    let key = link.key;
+    let octets = key.octets;
+    if key.held {
+        let installed = prepared(&t, octets);
+        return receive_each(&t, usual, installed, s, messages);
+    }
+    receive_each(&t, usual, usual, s, messages)
+}

@@ -1,0 +1,107 @@
+// What a planned PLOAMu burst sends, and what is then no longer owed.
+ghost use mathlib.Core.Path.{_≡_};
+ghost use Prim.Native.Nat.{_+_, _*_};
+ghost use Rattle.ploam.specs.Reading.{serialAt};
+ghost use Rattle.activation.specs.Replying.{sent, answering, inOperation, replyOf, afterReply, Replies, Leaves};
+use ids::OnuId;
+use ploam::UpstreamMessage;
+use station::Activation;
+use station::Station;
+use station::held::Owed;
+use station::held::Queue;
+use station::held::Response;
+
+// O1, O6 and O7 send nothing.
+pub enum Reply {
+    Silent,
+    Says(UpstreamMessage),
+}
+
+// The completion code that the message carries.
+fn sent(code: station::held::Completion) -> ploam::Completion
+    ensures { λ r. ⌜ r ≡ sent code ⌝ }
+{
+    match code {
+        station::held::Completion::Ok => ploam::Completion::Ok,
+        station::held::Completion::NoMessage => ploam::Completion::NoMessage,
+        station::held::Completion::UnknownMessageType => ploam::Completion::UnknownType,
+        station::held::Completion::ParameterError => ploam::Completion::ParameterError,
+        station::held::Completion::ProcessingError => ploam::Completion::ProcessingError,
+    }
+}
+
+fn answering(onu: OnuId, owed: Owed) -> UpstreamMessage
+    ensures { λ r. ⌜ r ≡ answering onu owed ⌝ }
+{
+    let response = owed.response;
+    match response {
+        Response::Registration => UpstreamMessage::Registration(onu, owed.seq_no),
+        Response::Acknowledgement(code) => UpstreamMessage::Acknowledgement(
+            onu,
+            owed.seq_no,
+            sent(code),
+        ),
+    }
+}
+
+fn in_operation(onu: OnuId, owed: Queue) -> UpstreamMessage
+    ensures { λ r. ⌜ r ≡ inOperation onu owed ⌝ }
+{
+    if owed.count == 0 {
+        return UpstreamMessage::Acknowledgement(onu, 0, ploam::Completion::NoMessage);
+    }
+    answering(onu, owed.oldest())
+}
+
+fn join(a: u8, b: u8, c: u8, d: u8) -> u32
+    ensures { λ r. ⌜ r ≡ (a * 256 + b) * 65536 + (c * 256 + d) ⌝ }
+{
+    (a as u32 * 256 + b as u32) * 65536 + (c as u32 * 256 + d as u32)
+}
+
+fn own_serial(octets: [u8; 8]) -> ploam::SerialNumber
+    ensures { λ r. ⌜ r ≡ serialAt octets 0 ⌝ }
+{
+    ploam::SerialNumber {
+        vendor: join(octets[0], octets[1], octets[2], octets[3]),
+        vssn: join(octets[4], octets[5], octets[6], octets[7]),
+    }
+}
+
+pub fn reply_of(s: Station, delay: u32) -> Reply
+    ensures { λ r. ⌜ Replies s delay r ⌝ }
+{
+    let a = s.activation;
+    let link = s.link;
+    let onu = link.onu;
+    let owed = link.owed;
+    let octets = s.serial;
+    match a {
+        Activation::Initial => Reply::Silent,
+        Activation::SerialNumber => Reply::Says(UpstreamMessage::SerialNumberOnu(
+            own_serial(octets),
+            delay,
+        )),
+        Activation::Ranging(_) => Reply::Says(UpstreamMessage::Registration(onu, 0)),
+        Activation::Operation => Reply::Says(in_operation(onu, owed)),
+        Activation::Intermittent(_) => Reply::Silent,
+        Activation::EmergencyStop => Reply::Silent,
+    }
+}
+
+// The answer that was sent is no longer owed.
+pub fn after_reply(s: Station) -> Station
+    ensures { λ r. ⌜ Leaves s r ⌝ }
+{
+    let a = s.activation;
+    let link = s.link;
+    let owed = link.owed;
+    match a {
+        Activation::Initial => s,
+        Activation::SerialNumber => s,
+        Activation::Ranging(_) => s,
+        Activation::Operation => s.with_link(link.with_owed(owed.paid())),
+        Activation::Intermittent(_) => s,
+        Activation::EmergencyStop => s,
+    }
+}

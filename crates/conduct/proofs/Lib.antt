@@ -1,0 +1,9 @@
+pub mod Queue
+pub mod Valid
+pub mod Forgotten
+pub mod Determined
+pub mod Sums
+pub mod Lists
+pub mod Slots
+pub mod InRange
+pub mod Runs
