@@ -14,6 +14,7 @@ use Rattle.effects.specs.Acts.{Decides, Applies}
 use Rattle.activation.specs.declared.replying.Reply.{Reply}
 use Rattle.activation.specs.Receiving.{AllReceived}
 use Rattle.activation.specs.Replying.{Replies, Leaves}
+use Rattle.replies.specs.Replies.{Left, Replied}
 
 pub add-determined : (s : Station) (p : PortId) (a b : Outcome) → AddLeaves s p a → AddLeaves s p b → a ≡ b
 add-determined s p a b x y = x ∙ sym y
@@ -38,6 +39,10 @@ reply-determined s d a b x y = x ∙ sym y
 
 pub after-reply-determined : (s a b : Station) → Leaves s a → Leaves s b → a ≡ b
 after-reply-determined s a b x y = x ∙ sym y
+
+pub replies-determined
+    : (s : Station) (n d : ℕ) (octets : List ℕ) (a b : Left) → Replied s n d octets a → Replied s n d octets b → a ≡ b
+replies-determined s n d octets a b x y = x ∙ sym y
 
 -- every other public function's contract is an equation `r ≡ definition`
 pub one-equation : {A : Type 0} (a b d : A) → a ≡ d → b ≡ d → a ≡ b

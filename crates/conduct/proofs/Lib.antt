@@ -6,4 +6,8 @@ pub mod Sums
 pub mod Lists
 pub mod Slots
 pub mod InRange
+pub mod InRangeTimes
+pub mod InRangeLists
+pub mod InRangeMessages
+pub mod InRangeHost
 pub mod Runs

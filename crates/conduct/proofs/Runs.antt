@@ -14,7 +14,10 @@ use Rattle.activation.specs.Receiving.{receiveAll}
 use Rattle.activation.specs.Replying.{afterReply}
 use Rattle.host.specs.Host.{afterAdd, afterRemove, afterKey}
 use Rattle.conduct.proofs.Forgotten.{Forgotten, power-on-forgotten, messages-forgotten, reply-forgotten, frame-end-forgotten, lost-forgotten, unread-forgotten, add-forgotten, remove-forgotten, key-forgotten}
-use Rattle.conduct.proofs.InRange.{Sound, sound-in-range, power-on-sound, messages-sound, reply-sound, frame-end-sound, lost-sound, unread-sound, add-sound, remove-sound, key-sound}
+use Rattle.conduct.proofs.InRange.{Sound, sound-in-range, power-on-sound}
+use Rattle.conduct.proofs.InRangeTimes.{frame-end-sound, lost-sound, unread-sound}
+use Rattle.conduct.proofs.InRangeMessages.{messages-sound, reply-sound}
+use Rattle.conduct.proofs.InRangeHost.{add-sound, remove-sound, key-sound}
 
 -- ---- the statement
 

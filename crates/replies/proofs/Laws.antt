@@ -1,0 +1,75 @@
+-- The replies, one at a time.
+-- Assumes nothing.
+use Prim.Native.Nat.{ℕ, zero, suc, min, _+_, _-_, _*_, _/_, _^_, _≤_, _<_}
+use mathlib.Core.Path.{_≡_, _∙_, refl, sym, ap}
+use mathlib.Core.Bool.{Bool, true, false}
+use mathlib.Core.List.{List, [], _∷_, _++_}
+use native.Mathlib.Omega.{arith}
+use lib.ListN.{length, take, drop}
+use lib.Seq.{drop-drop}
+use Rattle.aes.specs.Words.{wordsOf, Octets}
+use Rattle.aes.specs.MixTable.{mixTable}
+use Rattle.cmac.specs.ByTable.{preparedBy}
+use Rattle.cmac.specs.declared.Prepared.{Prepared}
+use Rattle.ploam.specs.declared.UpstreamMessage.{UpstreamMessage}
+use Rattle.ploam.specs.Integrity.{defaultKey, installedKey}
+use Rattle.ploam.specs.Upstream.{upstreamOctets}
+use Rattle.ploam.specs.Writing.{Outcome, Leaves, written, writtenBy}
+use Rattle.ploam.proofs.Keys.{default-octets}
+use Rattle.ploam.proofs.RoundTrip.{written-by-mix-table}
+use Rattle.station.specs.declared.Activation.{Activation}
+use Rattle.station.specs.declared.Activation.the-variants.{Initial, SerialNumber, Ranging, Operation, Intermittent, EmergencyStop}
+use Rattle.station.specs.declared.Station.{Station}
+use Rattle.station.specs.declared.held.Key.{Key}
+use Rattle.activation.specs.Replying.{afterIn, afterReply}
+use Rattle.replies.specs.Replies.{keyOf, inPlace, wrote, repliesFrom, Keyed, Left}
+
+-- what the prepared keys write is what the station's key would
+pub written-true
+    : (t : List ℕ) (usual installed : Prepared) (k : Key) (m : UpstreamMessage) (id target : List ℕ) (left : Outcome)
+    → Keyed t usual installed k → Leaves (writtenBy t usual installed m id target) (upstreamOctets m id) left
+    → left .target ≡ written (keyOf k) m id target .target
+written-true t usual installed k m id target left h w =
+    ap (λ (o : Outcome). o .target)
+    (w .made
+    ∙ ap (λ (x : List ℕ). writtenBy x usual installed m id target) (h .table)
+    ∙ ap (λ (u : Prepared). writtenBy mixTable u installed m id target) (h .default)
+    ∙ ap (λ (u : Prepared). writtenBy mixTable (preparedBy mixTable (wordsOf defaultKey)) u m id target) (h .own)
+    ∙ written-by-mix-table (keyOf k) m id target (h .octets) (h .sixteen) (w .known))
+
+-- a reply leaves the key
+after-key : (a : Activation) (s : Station) → afterIn a s .link .key ≡ s .link .key
+after-key Initial s = refl
+after-key SerialNumber s = refl
+after-key (Ranging left) s = refl
+after-key Operation s = refl
+after-key (Intermittent left) s = refl
+after-key EmergencyStop s = refl
+
+pub keyed-after : (t : List ℕ) (u p : Prepared) (s : Station) → Keyed t u p (s .link .key) → Keyed t u p (afterReply s .link .key)
+unfolding afterReply
+keyed-after t u p s h = rw (after-key (s .activation) s) h
+
+pub replies-turn
+    : (s : Station) (delay : ℕ) (b : List ℕ) (n i : ℕ) (r : Station) (c : List ℕ) → i < n → r ≡ afterReply s → c ≡ inPlace s delay b i
+    → repliesFrom r delay c (i + 1) (n - (i + 1)) ≡ repliesFrom s delay b i (n - i)
+replies-turn s delay b n i r c h hr hc = let e : n - i ≡ suc (n - (i + 1)) = omega arith in rw (e, hr, hc)
+
+pub replies-end
+    : (s : Station) (delay : ℕ) (b : List ℕ) (n i : ℕ) → n ≤ i → record { station = s; octets = b } ≡ repliesFrom s delay b i (n - i)
+replies-end s delay b n i h = let e : n - i ≡ 0 = omega arith in rw e
+
+-- the prepared keys are those of a station that holds a key, and of one that holds none
+pub keyed-held
+    : (u p : Prepared) (k : Key) → k .held ≡ true → u ≡ preparedBy mixTable (wordsOf defaultKey)
+    → p ≡ preparedBy mixTable (wordsOf (k .octets)) → Octets (k .octets) → length (k .octets) ≡ 16 → Keyed mixTable u p k
+keyed-held u p k h a b o l =
+    record { table = refl; default = a; own = rw h b; octets = rw h o; sixteen = rw h l }
+
+pub keyed-none
+    : (u : Prepared) (k : Key) → k .held ≡ false → u ≡ preparedBy mixTable (wordsOf defaultKey) → Keyed mixTable u u k
+keyed-none u k h a = record { table = refl; default = a; own = rw h a; octets = rw h default-octets; sixteen = rw h }
+
+-- as many as there is room for
+pub room-for : (n k b : ℕ) → k ≡ min n (b / 48) → b < 2 ^ 64 → (48 * k ≤ b) × (k < 2 ^ 63)
+room-for n k b e h = (omega arith, omega arith)
