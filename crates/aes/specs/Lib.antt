@@ -1,0 +1,5 @@
+pub mod Field
+pub mod Cipher
+pub mod Words
+pub mod ByTable
+pub mod MixTable

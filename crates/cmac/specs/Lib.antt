@@ -1,0 +1,2 @@
+pub mod Mac
+pub mod ByTable

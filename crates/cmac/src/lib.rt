@@ -1,0 +1,189 @@
+// AES-CMAC (RFC 4493) of a lent slice, and its first 64 bits, under a key that is prepared once for many messages.
+ghost use mathlib.Core.Path.{_≡_};
+ghost use Prim.Native.Nat.{_+_, _-_, _*_, _/_, _<_, _≤_, _^_};
+ghost use lib.ListN.{length};
+ghost use Rattle.aes.specs.Words.{wordsOf};
+ghost use Rattle.cmac.specs.Mac.{paddedAt, blockAt, cmac};
+ghost use Rattle.cmac.specs.ByTable.{shiftedWord, lastWord, doubledWords, Ready, wordAt, lastBlockBy, tagBy, macBy, mac64By};
+use aes::Words;
+
+// The round keys, and the subkeys K1 for a whole last block and K2 for a padded one.
+pub struct Prepared {
+    pub keys: [Words; 11],
+    pub whole: Words,
+    pub padded: Words,
+}
+
+// RFC 4493, 2.3: what is added where a 1 falls out of the shift.
+const RB: u32 = 0x87;
+
+fn shifted(x: u32, next: u32) -> u32
+    ensures { λ r. ⌜ r ≡ shiftedWord x next ⌝ }
+{
+    x % 2147483648 * 2 + next / 2147483648 % 2
+}
+
+fn last_shifted(x: u32, first: u32) -> u32
+    ensures { λ r. ⌜ r ≡ lastWord x first ⌝ }
+{
+    if first / 2147483648 % 2 == 0 {
+        x % 2147483648 * 2
+    } else {
+        x % 2147483648 * 2 ^ RB
+    }
+}
+
+fn doubled(w: Words) -> Words
+    ensures { λ r. ⌜ r ≡ doubledWords w ⌝ }
+{
+    Words {
+        a: shifted(w.a, w.b),
+        b: shifted(w.b, w.c),
+        c: shifted(w.c, w.d),
+        d: last_shifted(w.d, w.a),
+    }
+}
+
+pub fn prepare(t: &[u32; 256], key: [u8; 16]) -> Prepared
+    ensures { λ r. ⌜ Ready (now (t .entry)) key r ⌝ }
+{
+    let all = aes::expand(t, aes::load(key));
+    let zero = Words {
+        a: 0,
+        b: 0,
+        c: 0,
+        d: 0,
+    };
+    let whole = doubled(aes::encipher(t, all, zero));
+    let padded = doubled(whole);
+    Prepared {
+        keys: all,
+        whole: whole,
+        padded: padded,
+    }
+}
+
+fn octet_at(m: &[u8], j: usize) -> u8
+    ensures { λ r. ⌜ r ≡ paddedAt (now (m .entry)) j ⌝ }
+{
+    if j < m.len() {
+        m[j]
+    } else if j == m.len() {
+        0x80
+    } else {
+        0
+    }
+}
+
+fn inner_word(m: &[u8], j: usize) -> u32
+    requires { ⌜ j + 4 ≤ length (now m) ⌝ }
+    ensures { λ r. ⌜ r ≡ wordAt (now (m .entry)) j ⌝ }
+{
+    aes::join(m[j], m[j + 1], m[j + 2], m[j + 3])
+}
+
+fn padded_word(m: &[u8], j: usize) -> u32
+    requires { ⌜ j + 4 < 2 ^ 64 ⌝ }
+    ensures { λ r. ⌜ r ≡ wordAt (now (m .entry)) j ⌝ }
+{
+    aes::join(
+        octet_at(m, j),
+        octet_at(m, j + 1),
+        octet_at(m, j + 2),
+        octet_at(m, j + 3),
+    )
+}
+
+fn word_at(m: &[u8], j: usize) -> u32
+    requires { ⌜ j + 4 < 2 ^ 64 ⌝ }
+    ensures { λ r. ⌜ r ≡ wordAt (now (m .entry)) j ⌝ }
+{
+    if j + 4 <= m.len() {
+        inner_word(m, j)
+    } else {
+        padded_word(m, j)
+    }
+}
+
+fn block_at(m: &[u8], j: usize) -> Words
+    requires { ⌜ j + 16 < 2 ^ 64 ⌝ }
+    ensures { λ r. ⌜ r ≡ wordsOf (blockAt (now (m .entry)) j) ⌝ }
+{
+    Words {
+        a: word_at(m, j),
+        b: word_at(m, j + 4),
+        c: word_at(m, j + 8),
+        d: word_at(m, j + 12),
+    }
+}
+
+fn blocks_before(n: usize) -> usize
+    ensures { λ r. ⌜ r ≡ (n - 1) / 16 ⌝ }
+{
+    if n == 0 { 0 } else { (n - 1) / 16 }
+}
+
+fn last_block(key: Prepared, m: &[u8], j: usize) -> Words
+    requires { ⌜ j + 16 < 2 ^ 64 ⌝ }
+    ensures { λ r. ⌜ r ≡ lastBlockBy key (now (m .entry)) j ⌝ }
+{
+    let b = block_at(m, j);
+    let whole = key.whole;
+    let padded = key.padded;
+    if m.len() == j + 16 {
+        aes::add(b, whole)
+    } else {
+        aes::add(b, padded)
+    }
+}
+
+fn tag(t: &[u32; 256], key: Prepared, m: &[u8]) -> Words
+    ensures { λ r. ⌜ r ≡ tagBy (now (t .entry)) key (now (m .entry)) ⌝ }
+{
+    let ks = key.keys;
+    let n = blocks_before(m.len());
+    let mut x = Words {
+        a: 0,
+        b: 0,
+        c: 0,
+        d: 0,
+    };
+    let mut i: usize = 0;
+    while i < n {
+        let next = aes::encipher(t, ks, aes::add(x, block_at(m, i * 16)));
+        x = next;
+        i += 1;
+    }
+    aes::encipher(t, ks, aes::add(x, last_block(key, m, n * 16)))
+}
+
+pub fn mac(t: &[u32; 256], key: Prepared, m: &[u8]) -> [u8; 16]
+    ensures { λ r. ⌜ r ≡ macBy (now (t .entry)) key (now (m .entry)) ⌝ }
+{
+    aes::store(tag(t, key, m))
+}
+
+pub fn mac64(t: &[u32; 256], key: Prepared, m: &[u8]) -> [u8; 8]
+    ensures { λ r. ⌜ r ≡ mac64By (now (t .entry)) key (now (m .entry)) ⌝ }
+{
+    let w = tag(t, key, m);
+    [
+        (w.a / 16777216 % 256) as u8,
+        (w.a / 65536 % 256) as u8,
+        (w.a / 256 % 256) as u8,
+        (w.a % 256) as u8,
+        (w.b / 16777216 % 256) as u8,
+        (w.b / 65536 % 256) as u8,
+        (w.b / 256 % 256) as u8,
+        (w.b % 256) as u8,
+    ]
+}
+
+// Under a key that is used once.
+pub fn mac_once(key: [u8; 16], m: &[u8]) -> [u8; 16]
+    ensures { λ r. ⌜ r ≡ cmac key (now (m .entry)) ⌝ }
+{
+    let t = aes::MIX;
+    let p = prepare(&t, key);
+    mac(&t, p, m)
+}

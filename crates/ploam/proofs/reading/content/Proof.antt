@@ -1,0 +1,159 @@
+use mathlib.Core.Path.{_∙_, sym, ap, ap₂}
+use Prim.Native.Nat.{ℕ}
+use denote.Ref.{now}
+use Rattle.ploam.specs.Layout.{typeOf}
+use Rattle.ploam.specs.Reading.{contentAs}
+use Rattle.ploam.specs.declared.Content.the-variants.{AssignOnuId, RangingTime, DisableSerialNumber, AssignAllocId}
+use Rattle.ploam.proofs.Types.{unknown}
+use borrow.Author.Needs.{needs}
+use Rattle.ploam.proofs.reading.content.Statement.{statement}
+use Rattle.ploam.proofs.reading.content.Tie as tie
+use Rattle.ploam.proofs.reading.content.Reads as reads
+use Rattle.ploam.proofs.reading.content.Lts as lts
+use Rattle.ploam.proofs.reading.adjustment.Reads as adjustment-reads
+use Rattle.ploam.proofs.reading.alloc_in.Reads as alloc-in-reads
+use Rattle.ploam.proofs.reading.change.Reads as change-reads
+use Rattle.ploam.proofs.reading.number32.Reads as number32-reads
+use Rattle.ploam.proofs.reading.onu_in.Reads as onu-in-reads
+use Rattle.ploam.proofs.reading.serial_number.Reads as serial-number-reads
+use Rattle.ploam.proofs.reading.switch.Reads as switch-reads
+
+-- src/reading.rt:107:16
+shared-slice-read-kind : tie.Need-shared-slice-read-kind
+shared-slice-read-kind c = search needs
+
+-- src/reading.rt:110:38
+onu-in-requires : tie.Need-onu-in-requires
+onu-in-requires c κs = search needs
+
+-- src/reading.rt:110:49
+serial-number-requires : tie.Need-serial-number-requires
+serial-number-requires c κs = search needs
+
+-- src/reading.rt:111:49
+shared-slice-read-adjustment : tie.Need-shared-slice-read-adjustment
+shared-slice-read-adjustment c = search needs
+
+-- src/reading.rt:111:38
+adjustment-requires : tie.Need-adjustment-requires
+adjustment-requires c κs = search needs
+
+-- src/reading.rt:111:56
+number32-requires : tie.Need-number32-requires
+number32-requires c κs = search needs
+
+-- src/reading.rt:113:53
+shared-slice-read-switch : tie.Need-shared-slice-read-switch
+shared-slice-read-switch c = search needs
+
+-- src/reading.rt:113:46
+switch-requires : tie.Need-switch-requires
+switch-requires c κs = search needs
+
+-- src/reading.rt:113:60
+serial-number-requires-2 : tie.Need-serial-number-requires-2
+serial-number-requires-2 c κs = search needs
+
+-- src/reading.rt:115:40
+alloc-in-requires : tie.Need-alloc-in-requires
+alloc-in-requires c κs = search needs
+
+-- src/reading.rt:115:60
+shared-slice-read-change : tie.Need-shared-slice-read-change
+shared-slice-read-change c = search needs
+
+-- src/reading.rt:115:53
+change-requires : tie.Need-change-requires
+change-requires c κs = search needs
+
+-- src/reading.rt:103:1
+returns : tie.Need-returns
+unfolding contentAs
+returns c = sym (ap (λ (k : ℕ). contentAs k (now (c .before .before .before .args .m))) (c .match .keys1))
+
+-- src/reading.rt:103:1
+returns-2 : tie.Need-returns-2
+unfolding contentAs
+returns-2 c =
+    let at = c .before .before in
+    ap₂ AssignOnuId (c .before .onu-in .ensures) (c .serial-number .ensures)
+    ∙ sym (ap (λ (k : ℕ). contentAs k (now (at .before .before .before .args .m))) (at .match .keys2))
+
+-- src/reading.rt:103:1
+returns-3 : tie.Need-returns-3
+unfolding contentAs
+returns-3 c =
+    let at = c .before .before .before in
+    ap₂ RangingTime (c .before .adjustment .ensures) (c .number32 .ensures)
+    ∙ sym (ap (λ (k : ℕ). contentAs k (now (at .before .before .before .args .m))) (at .match .keys3))
+
+-- src/reading.rt:103:1
+returns-4 : tie.Need-returns-4
+unfolding contentAs
+returns-4 c = sym (ap (λ (k : ℕ). contentAs k (now (c .before .before .before .args .m))) (c .match .keys4))
+
+-- src/reading.rt:103:1
+returns-5 : tie.Need-returns-5
+unfolding contentAs
+returns-5 c =
+    let at = c .before .before .before in
+    ap₂ DisableSerialNumber (c .before .switch .ensures) (c .serial-number2 .ensures)
+    ∙ sym (ap (λ (k : ℕ). contentAs k (now (at .before .before .before .args .m))) (at .match .keys5))
+
+-- src/reading.rt:103:1
+returns-6 : tie.Need-returns-6
+unfolding contentAs
+returns-6 c = sym (ap (λ (k : ℕ). contentAs k (now (c .before .before .before .args .m))) (c .match .keys6))
+
+-- src/reading.rt:103:1
+returns-7 : tie.Need-returns-7
+unfolding contentAs
+returns-7 c =
+    let at = c .before .before .before in
+    ap₂ AssignAllocId (c .before .before .alloc-in .ensures) (c .change .ensures)
+    ∙ sym (ap (λ (k : ℕ). contentAs k (now (at .before .before .before .args .m))) (at .match .keys7))
+
+-- src/reading.rt:103:1
+returns-8 : tie.Need-returns-8
+unfolding contentAs
+returns-8 c = sym (ap (λ (k : ℕ). contentAs k (now (c .before .before .before .args .m))) (c .match .keys8))
+
+-- src/reading.rt:103:1
+returns-9 : tie.Need-returns-9
+unfolding contentAs
+returns-9 c = sym (ap (λ (k : ℕ). contentAs k (now (c .before .before .before .args .m))) (c .match .keys9))
+
+-- src/reading.rt:103:1
+returns-10 : tie.Need-returns-10
+returns-10 c =
+    let rest = c .match .rest in
+    unknown (typeOf (now (c .before .before .before .args .m))) (now (c .before .before .before .args .m))
+    (rest .0 .0 .0 .0 .0 .0 .0 .0 .1) (rest .0 .0 .0 .0 .0 .0 .0 .1) (rest .0 .0 .0 .0 .0 .0 .1) (rest .0 .0 .0 .0 .0 .1)
+    (rest .0 .0 .0 .0 .1) (rest .0 .0 .0 .1) (rest .0 .0 .1) (rest .0 .1) (rest .1)
+
+pub content-spec : {M : Type 1} → statement M
+content-spec =
+    tie.close
+    (tie.spec
+    shared-slice-read-kind
+    onu-in-requires
+    serial-number-requires
+    shared-slice-read-adjustment
+    adjustment-requires
+    number32-requires
+    shared-slice-read-switch
+    switch-requires
+    serial-number-requires-2
+    alloc-in-requires
+    shared-slice-read-change
+    change-requires
+    returns
+    returns-2
+    returns-3
+    returns-4
+    returns-5
+    returns-6
+    returns-7
+    returns-8
+    returns-9
+    returns-10)

@@ -1,0 +1,46 @@
+-- The fields that all PLOAM messages have: clause 11.2. Octets are counted from 1, as the standard counts them.
+-- Assumes nothing.
+use Prim.Native.Nat.{ℕ, _+_, _-_, _*_, _%_}
+use mathlib.Core.List.{List}
+use lib.ListN.{getD, take, drop}
+use Rattle.ids.specs.declared.OnuId.{OnuId}
+
+-- a message, the part of it that the integrity field covers, and the integrity field
+abbrev pub messageOctets : ℕ
+messageOctets = 48
+
+abbrev pub coveredOctets : ℕ
+coveredOctets = 40
+
+-- a number of two octets, and of four, at an index
+abbrev pub at16 : List ℕ → ℕ → ℕ
+at16 m i = getD m i 0 * 256 + getD m (i + 1) 0
+
+abbrev pub at32 : List ℕ → ℕ → ℕ
+at32 m i = at16 m i * 65536 + at16 m (i + 2)
+
+-- octet n, and the numbers of two and four octets from octet n on
+abbrev pub octet : List ℕ → ℕ → ℕ
+octet m n = getD m (n - 1) 0
+
+abbrev pub number16 : List ℕ → ℕ → ℕ
+number16 m n = at16 m (n - 1)
+
+abbrev pub number32 : List ℕ → ℕ → ℕ
+number32 m n = at32 m (n - 1)
+
+-- octets 1-2: the upper six bits are ignored
+abbrev pub addressOf : List ℕ → OnuId
+addressOf m = record { 0 = number16 m 1 % 1024 }
+
+-- octet 3
+abbrev pub typeOf : List ℕ → ℕ
+typeOf m = octet m 3
+
+-- octet 4
+abbrev pub seqNoOf : List ℕ → ℕ
+seqNoOf m = octet m 4
+
+-- octets 41-48
+abbrev pub micField : List ℕ → List ℕ
+micField m = take 8 (drop coveredOctets m)

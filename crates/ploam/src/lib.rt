@@ -1,0 +1,62 @@
+// The messages of the PLOAM channel (G.987.3, clauses 11 and 15.6): 48 octets, read, checked and written.
+pub mod reading;
+
+use ids::{AllocId, OnuId};
+
+// A message, and the part of it that the integrity field covers.
+const MESSAGE_OCTETS: usize = 48;
+
+// Vendor-ID and vendor-specific serial number.
+pub struct SerialNumber {
+    pub vendor: u32,
+    pub vssn: u32,
+}
+
+// How Ranging_Time gives its delay.
+pub enum Adjustment {
+    Absolute,
+    Add,
+    Subtract,
+}
+
+// What Disable_Serial_Number asks, and of whom.
+pub enum Switch {
+    DisableOwn,
+    EnableOwn,
+    DisableAll,
+    EnableAll,
+    OtherSwitch,
+}
+
+// What Assign_Alloc-ID does with its Alloc-ID.
+pub enum AllocChange {
+    Assign,
+    Deallocate,
+    OtherChange,
+}
+
+// What a downstream message says: Table 11-2. A type that the table does not have is Unknown.
+pub enum Content {
+    Profile,
+    AssignOnuId(OnuId, SerialNumber),
+    RangingTime(Adjustment, u32),
+    DeactivateOnuId,
+    DisableSerialNumber(Switch, SerialNumber),
+    RequestRegistration,
+    AssignAllocId(AllocId, AllocChange),
+    KeyControl,
+    SleepAllow,
+    Unknown(u8),
+}
+
+pub struct Message {
+    pub address: OnuId,
+    pub seq: u8,
+    pub content: Content,
+}
+
+// A slice under 48 octets is short.
+pub enum Received {
+    Whole(Message),
+    Short,
+}

@@ -1,0 +1,133 @@
+// Reading a downstream message. Nothing here says that it is genuine: the integrity check is a call of its own, which
+// costs far more, and is made only for a message that could act.
+ghost use mathlib.Core.Path.{_≡_};
+ghost use Prim.Native.Nat.{_+_, _*_, _≤_};
+ghost use lib.ListN.{length};
+ghost use Rattle.ploam.specs.Layout.{messageOctets, at16, at32, addressOf};
+ghost use Rattle.ploam.specs.Reading.{serialAt, adjustmentOf, switchOf, changeOf, onuIn, allocIn, contentOf, received};
+
+use super::{Adjustment, AllocChange, Content, MESSAGE_OCTETS, Message, Received, SerialNumber, Switch};
+use ids::{AllocId, OnuId};
+
+fn join16(a: u8, b: u8) -> u16
+    ensures { λ r. ⌜ r ≡ a * 256 + b ⌝ }
+{
+    a as u16 * 256 + b as u16
+}
+
+fn join32(a: u16, b: u16) -> u32
+    ensures { λ r. ⌜ r ≡ a * 65536 + b ⌝ }
+{
+    a as u32 * 65536 + b as u32
+}
+
+fn number16(m: &[u8], i: usize) -> u16
+    requires { ⌜ i + 2 ≤ length (now m) ⌝ }
+    ensures { λ r. ⌜ r ≡ at16 (now (m .entry)) i ⌝ }
+{
+    join16(m[i], m[i + 1])
+}
+
+fn number32(m: &[u8], i: usize) -> u32
+    requires { ⌜ i + 4 ≤ length (now m) ⌝ }
+    ensures { λ r. ⌜ r ≡ at32 (now (m .entry)) i ⌝ }
+{
+    join32(number16(m, i), number16(m, i + 2))
+}
+
+fn serial_number(m: &[u8], i: usize) -> SerialNumber
+    requires { ⌜ i + 8 ≤ length (now m) ⌝ }
+    ensures { λ r. ⌜ r ≡ serialAt (now (m .entry)) i ⌝ }
+{
+    SerialNumber {
+        vendor: number32(m, i),
+        vssn: number32(m, i + 4),
+    }
+}
+
+fn address(m: &[u8]) -> OnuId
+    requires { ⌜ messageOctets ≤ length (now m) ⌝ }
+    ensures { λ r. ⌜ r ≡ addressOf (now (m .entry)) ⌝ }
+{
+    OnuId(number16(m, 0) % 1024)
+}
+
+fn onu_in(m: &[u8]) -> OnuId
+    requires { ⌜ messageOctets ≤ length (now m) ⌝ }
+    ensures { λ r. ⌜ r ≡ onuIn (now (m .entry)) ⌝ }
+{
+    OnuId(number16(m, 4))
+}
+
+fn alloc_in(m: &[u8]) -> AllocId
+    requires { ⌜ messageOctets ≤ length (now m) ⌝ }
+    ensures { λ r. ⌜ r ≡ allocIn (now (m .entry)) ⌝ }
+{
+    AllocId(number16(m, 4) % 16384)
+}
+
+fn adjustment(o: u8) -> Adjustment
+    ensures { λ r. ⌜ r ≡ adjustmentOf o ⌝ }
+{
+    if o % 2 == 1 {
+        Adjustment::Absolute
+    } else if o / 2 % 2 == 1 {
+        Adjustment::Subtract
+    } else {
+        Adjustment::Add
+    }
+}
+
+fn switch(o: u8) -> Switch
+    ensures { λ r. ⌜ r ≡ switchOf o ⌝ }
+{
+    match o {
+        0xff => Switch::DisableOwn,
+        0x00 => Switch::EnableOwn,
+        0x0f => Switch::DisableAll,
+        0xf0 => Switch::EnableAll,
+        _ => Switch::OtherSwitch,
+    }
+}
+
+fn change(o: u8) -> AllocChange
+    ensures { λ r. ⌜ r ≡ changeOf o ⌝ }
+{
+    match o {
+        1 => AllocChange::Assign,
+        255 => AllocChange::Deallocate,
+        _ => AllocChange::OtherChange,
+    }
+}
+
+fn content(m: &[u8]) -> Content
+    requires { ⌜ messageOctets ≤ length (now m) ⌝ }
+    ensures { λ r. ⌜ r ≡ contentOf (now (m .entry)) ⌝ }
+{
+    let kind = m[2];
+    match kind {
+        0x01 => Content::Profile,
+        0x03 => Content::AssignOnuId(onu_in(m), serial_number(m, 6)),
+        0x04 => Content::RangingTime(adjustment(m[4]), number32(m, 5)),
+        0x05 => Content::DeactivateOnuId,
+        0x06 => Content::DisableSerialNumber(switch(m[4]), serial_number(m, 5)),
+        0x09 => Content::RequestRegistration,
+        0x0a => Content::AssignAllocId(alloc_in(m), change(m[6])),
+        0x0d => Content::KeyControl,
+        0x12 => Content::SleepAllow,
+        _ => Content::Unknown(kind),
+    }
+}
+
+pub fn read(m: &[u8]) -> Received
+    ensures { λ r. ⌜ r ≡ received (now (m .entry)) ⌝ }
+{
+    if m.len() < MESSAGE_OCTETS {
+        return Received::Short;
+    }
+    Received::Whole(Message {
+        address: address(m),
+        seq: m[3],
+        content: content(m),
+    })
+}

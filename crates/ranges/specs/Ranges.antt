@@ -1,0 +1,92 @@
+-- The paper's "State ranges". Entries past a count and the waiting mark of an empty slot are not looked at.
+-- Assumes nothing.
+use Prim.Native.Nat.{ℕ, zero, suc, _+_, _-_}
+use mathlib.Core.List.{List, [], _∷_}
+use mathlib.Core.Bool.{Bool, true, false, _&&_, _||_, not, cond}
+use lib.ListN.{getD}
+use lib.Seq.{slice}
+use lib.Dec.{leb, ltb, eqb}
+use Rattle.ids.specs.declared.OnuId.{OnuId}
+use Rattle.ids.specs.declared.AllocId.{AllocId}
+use Rattle.ids.specs.declared.PortId.{PortId}
+use Rattle.ids.specs.Ids.{within, assignableOnu, assignableAlloc, assignablePort, sameOnu, sameAlloc, samePort, broadcastOnu}
+use Rattle.station.specs.declared.Activation.{Activation}
+use Rattle.station.specs.declared.Activation.the-variants.{Initial, SerialNumber, Ranging, Operation, Intermittent, EmergencyStop}
+use Rattle.station.specs.declared.Station.{Station}
+use Rattle.station.specs.declared.held.Allocs.{Allocs}
+use Rattle.station.specs.declared.slots.Ports.{Ports}
+use Rattle.station.specs.Limits.{addedAllocs, addedPorts, mostOwed, slots, slotBytes, upstreamWords, to1, to2}
+use Rattle.station.specs.Lists.{some}
+use Rattle.station.specs.States.{holdsIdentity}
+use Rattle.station.specs.Held.{heldAllocs, noAlloc}
+use Rattle.station.specs.Slots.{noPort}
+
+-- "ONU-ID at most 1,022 in O4, O5, O6, else 1,023"
+unfoldable pub identityFits : Activation → OnuId → Bool
+identityFits a onu = cond (holdsIdentity a) (assignableOnu onu) (sameOnu onu broadcastOnu)
+
+-- "in range and distinct": each is in range, and none behind it is the same
+abbrev pub proper : {A : Type 0} → (A → Bool) → (A → A → Bool) → List A → Bool
+proper ok same [] = true
+proper ok same (a ∷ l) = ok a && (not (some (same a) l) && proper ok same l)
+
+-- "added Alloc-IDs .. in range and distinct", at most 16
+unfoldable pub allocsFit : Allocs → Bool
+allocsFit a = leb (a .count) addedAllocs && proper assignableAlloc sameAlloc (heldAllocs a)
+
+-- the added ports in the order of their slots
+abbrev pub held : List PortId → List PortId
+held [] = []
+held (p ∷ l) = cond (samePort p noPort) (held l) (p ∷ held l)
+
+-- "added .. ports in range and distinct"
+unfoldable pub portsFit : List PortId → Bool
+portsFit ids = proper assignablePort samePort (held ids)
+
+-- slot 0 is the management port's and never empty
+abbrev pub emptySlot : List PortId → ℕ → Bool
+emptySlot ids zero = false
+emptySlot ids (suc i) = samePort (getD ids i noPort) noPort
+
+-- "partials at most 2,048, and 0 for a waiting port or empty slot"
+unfoldable pub partialFits : ℕ → Bool → Bool → Bool
+partialFits bytes waits empty = cond (waits || empty) (eqb bytes 0) (leb bytes slotBytes)
+
+-- the test holds at i and the k - 1 numbers after it
+abbrev pub every : (ℕ → Bool) → ℕ → ℕ → Bool
+every f i zero = true
+every f i (suc k) = f i && every f (i + 1) k
+
+unfoldable pub slotFits : List PortId → List ℕ → List Bool → ℕ → Bool
+slotFits ids lengths waiting slot = partialFits (getD lengths slot 0) (getD waiting slot false) (emptySlot ids slot)
+
+unfoldable pub partialsFit : List PortId → List ℕ → List Bool → Bool
+partialsFit ids lengths waiting = every (slotFits ids lengths waiting) 0 slots
+
+-- "TO1 1 to 80,000, TO2 1 to 800"
+abbrev pub timerFits : Activation → Bool
+timerFits Initial = true
+timerFits SerialNumber = true
+timerFits (Ranging left) = within 1 to1 left
+timerFits Operation = true
+timerFits (Intermittent left) = within 1 to2 left
+timerFits EmergencyStop = true
+
+-- "carried words at most 9,719"; "other counts within this paper's numbers": the answers owed
+unfoldable pub inRange : Station → Bool
+inRange s =
+    identityFits (s .activation) (s .link .onu)
+    && (allocsFit (s .link .allocs)
+    && (portsFit (s .ports .ids)
+    && (partialsFit (s .ports .ids) (s .ports .lengths) (s .ports .waiting)
+    && (leb (s .carried) (upstreamWords - 1) && (timerFits (s .activation) && leb (s .link .owed .count) mostOwed)))))
+
+-- ---- the same, one place at a time
+
+unfoldable pub allocFits : List AllocId → ℕ → ℕ → Bool
+allocFits ids i n = assignableAlloc (getD ids i noAlloc) && not (some (sameAlloc (getD ids i noAlloc)) (slice (i + 1) n ids))
+
+unfoldable pub portFits : List PortId → ℕ → Bool
+portFits ids i =
+    cond (samePort (getD ids i noPort) noPort) true
+    (assignablePort (getD ids i noPort) && not (some (samePort (getD ids i noPort)) (slice (i + 1) addedPorts ids)))
