@@ -12,5 +12,14 @@ pub unknown : (k : ℕ) (m : List ℕ) → (k ≡ 0x01 → ⊥) → (k ≡ 0x03 
     → (k ≡ 0x09 → ⊥) → (k ≡ 0x0a → ⊥) → (k ≡ 0x0d → ⊥) → (k ≡ 0x12 → ⊥) → Unknown k ≡ contentAs k m
 unfolding contentAs
 unknown k m n1 n3 n4 n5 n6 n9 na nd n12 =
-    simp (ne-eqb k 0x01 n1, ne-eqb k 0x03 n3, ne-eqb k 0x04 n4, ne-eqb k 0x05 n5, ne-eqb k 0x06 n6, ne-eqb k 0x09 n9,
-    ne-eqb k 0x0a na, ne-eqb k 0x0d nd, ne-eqb k 0x12 n12)
+    simp (
+      ne-eqb k 0x01 n1,
+      ne-eqb k 0x03 n3,
+      ne-eqb k 0x04 n4,
+      ne-eqb k 0x05 n5,
+      ne-eqb k 0x06 n6,
+      ne-eqb k 0x09 n9,
+      ne-eqb k 0x0a na,
+      ne-eqb k 0x0d nd,
+      ne-eqb k 0x12 n12,
+    )

@@ -1,7 +1,8 @@
 // The messages of the PLOAM channel (G.987.3, clauses 11 and 15.6): 48 octets, read, checked and written.
 pub mod reading;
 
-use ids::{AllocId, OnuId};
+use ids::AllocId;
+use ids::OnuId;
 
 // A message, and the part of it that the integrity field covers.
 const MESSAGE_OCTETS: usize = 48;

@@ -5,9 +5,16 @@ ghost use Prim.Native.Nat.{_+_, _*_, _≤_};
 ghost use lib.ListN.{length};
 ghost use Rattle.ploam.specs.Layout.{messageOctets, at16, at32, addressOf};
 ghost use Rattle.ploam.specs.Reading.{serialAt, adjustmentOf, switchOf, changeOf, onuIn, allocIn, contentOf, received};
-
-use super::{Adjustment, AllocChange, Content, MESSAGE_OCTETS, Message, Received, SerialNumber, Switch};
-use ids::{AllocId, OnuId};
+use super::Adjustment;
+use super::AllocChange;
+use super::Content;
+use super::MESSAGE_OCTETS;
+use super::Message;
+use super::Received;
+use super::SerialNumber;
+use super::Switch;
+use ids::AllocId;
+use ids::OnuId;
 
 fn join16(a: u8, b: u8) -> u16
     ensures { λ r. ⌜ r ≡ a * 256 + b ⌝ }

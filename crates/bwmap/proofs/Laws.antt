@@ -1,0 +1,108 @@
+-- What the loops over the entries need, a turn at a time.
+-- Assumes nothing.
+use Prim.Native.Nat.{ℕ, zero, suc, _+_, _-_, _*_, _≤_, _<_}
+use mathlib.Core.Path.{_≡_, _∙_, refl, sym, ap}
+use mathlib.Core.List.{List, [], _∷_, _++_}
+use mathlib.Core.Bool.{Bool, true, false, cond}
+use native.Mathlib.Omega.{arith}
+use native.Mathlib.Numerals.{add-one}
+use native.Mathlib.Nat.{add-zero}
+use lib.ListN.{length}
+use lib.Seq.{sets}
+use Rattle.framing.specs.declared.allocation.Allocation.{Allocation}
+use Rattle.entries.specs.declared.Own.{Own}
+use Rattle.entries.specs.declared.Verdict.{Verdict}
+use Rattle.entries.specs.declared.Standing.{Standing}
+use Rattle.entries.specs.declared.Standing.the-variants.{Apart, Head, More}
+use Rattle.entries.specs.Standings.{standing}
+use Rattle.bwmap.specs.Series.{entryAt, entryCount, run, seriesOf, grants}
+use Rattle.bwmap.specs.Plan.{moreFlags, planRecord, moreNumbers}
+use Rattle.bwmap.specs.Turns.{rest, tally}
+use Rattle.bwmap.specs.declared.series.Run.{Run}
+
+-- ---- the entries that are left
+
+module _ (own : Own) (m : List ℕ) (i : ℕ) where
+  pub rest-cons : i < entryCount m → rest own m i ≡ standing own (entryAt m i) ∷ rest own m (i + 1)
+  rest-cons h =
+      let e : entryCount m - i ≡ suc (entryCount m - (i + 1)) = omega arith in
+      rw (e, add-one i)
+
+  pub rest-nil : entryCount m ≤ i → rest own m i ≡ []
+  rest-nil h =
+      let e : entryCount m - i ≡ 0 = omega arith in
+      rw e
+
+  module _ (x : Standing) (h : i < entryCount m) (p : x ≡ standing own (entryAt m i)) where
+    -- an entry that is no head begins no series
+    pub pass-apart : (v : Verdict) → x ≡ Apart v → seriesOf (rest own m (i + 1)) ≡ seriesOf (rest own m i)
+    pass-apart v q = rw (rest-cons h, ← p, q)
+
+    pub pass-more : (a : Allocation) → x ≡ More a → seriesOf (rest own m (i + 1)) ≡ seriesOf (rest own m i)
+    pass-more a q = rw (rest-cons h, ← p, q)
+
+-- ---- a run
+
+run-nil : (k : ℕ) → run k [] ≡ []
+run-nil zero = refl
+run-nil (suc k) = refl
+
+run-head : (k : ℕ) (a : Allocation) (l : List Standing) → run k (Head a ∷ l) ≡ []
+run-head zero a l = refl
+run-head (suc k) a l = refl
+
+run-apart : (k : ℕ) (v : Verdict) (l : List Standing) → run k (Apart v ∷ l) ≡ []
+run-apart zero v l = refl
+run-apart (suc k) v l = refl
+
+tally-nil : (k g : ℕ) → tally k g [] ≡ record { count = k; grants = g }
+tally-nil k g = rw (add-zero k, add-zero g)
+
+tally-cons : (k g : ℕ) (a : Allocation) (l : List Allocation) → tally k g (a ∷ l) ≡ tally (k + 1) (g + a .grant) l
+tally-cons k g a l =
+    let p : k + suc (length l) ≡ k + 1 + length l = omega arith in
+    let q : g + (a .grant + grants l) ≡ g + a .grant + grants l = omega arith in
+    cc
+
+module _ (own : Own) (m : List ℕ) (i k : ℕ) where
+  -- where a run stops
+  pub stop-end : entryCount m ≤ i → run (15 - k) (rest own m i) ≡ []
+  stop-end h = rw (rest-nil own m i h, run-nil)
+
+  pub stop-full : 15 ≤ k → run (15 - k) (rest own m i) ≡ []
+  stop-full h =
+      let e : 15 - k ≡ 0 = omega arith in
+      rw e
+
+  module _ (x : Standing) (h : i < entryCount m) (p : x ≡ standing own (entryAt m i)) where
+    pub stop-head : (a : Allocation) → x ≡ Head a → run (15 - k) (rest own m i) ≡ []
+    stop-head a q = rw (rest-cons own m i h, ← p, q, run-head)
+
+    pub stop-apart : (v : Verdict) → x ≡ Apart v → run (15 - k) (rest own m i) ≡ []
+    stop-apart v q = rw (rest-cons own m i h, ← p, q, run-apart)
+
+    -- and where it goes on
+    pub go-on : (a : Allocation) (j : ℕ) → x ≡ More a → k < 15 → j ≡ i + 1 → run (15 - k) (rest own m i) ≡ a ∷ run (15 - (k + 1)) (rest own m j)
+    go-on a j q l hj =
+        let d : 15 - k ≡ suc (15 - (k + 1)) = omega arith in
+        rw (rest-cons own m i h, ← p, q, d, hj)
+
+-- the count of a run, one more
+pub tally-step
+    : (k g r : ℕ) (a : Allocation) (l l′ : List Allocation) → l ≡ a ∷ l′ → r ≡ a .grant → tally (k + 1) (g + r) l′ ≡ tally k g l
+tally-step k g r a l l′ e h = rw (e, h) (sym (tally-cons k g a l′))
+
+pub tally-done : (k g : ℕ) (l : List Allocation) → l ≡ [] → record { count = k; grants = g } ≡ tally k g l
+tally-done k g l e = rw (e, tally-nil)
+
+-- the records of a run, one more
+pub write-step
+    : (at k : ℕ) (h a : Allocation) (f : ℕ) (p p′ : List ℕ) (l l′ : List Allocation) → l ≡ a ∷ l′ → f ≡ moreFlags h a
+    → p′ ≡ sets p (at + 4 * k) (planRecord a f (h .start))
+    → sets p′ (at + 4 * (k + 1)) (moreNumbers h l′) ≡ sets p (at + 4 * k) (moreNumbers h l)
+write-step at k h a f p p′ l l′ e hf hp =
+    let b : at + 4 * (k + 1) ≡ suc (suc (suc (suc (at + 4 * k)))) = omega arith in
+    rw (hp, b, e, hf)
+
+pub write-done : (p : List ℕ) (at : ℕ) (h : Allocation) (l : List Allocation) → l ≡ [] → p ≡ sets p at (moreNumbers h l)
+write-done p at h l e = rw e

@@ -1,0 +1,4 @@
+pub mod Reading
+pub mod Laws
+pub mod Steps
+pub mod Determined
