@@ -14,16 +14,7 @@ use Rattle.entries.specs.declared.Verdict.{Verdict}
 use Rattle.entries.specs.declared.Verdict.the-variants.{Unreadable, StartTimeUnfit, DbruWithoutRoom, Foreign, Silent}
 use Rattle.entries.specs.declared.Standing.{Standing}
 use Rattle.entries.specs.declared.Standing.the-variants.{Apart, Head, More}
-use Rattle.entries.specs.Standings.{startUnfit, noRoom, continues, ours, silent, sorted, standing, readAsStanding}
-
--- an entry of ours: read, usable, in a state that may send, and a head or one that continues
-pub record Ours (own : Own) (e : Found Allocation) (a : Allocation) (more : Bool) : Type 0 where
-  pub read : e ≡ fields a
-  pub sends : silent (own .activation) ≡ false
-  pub fit : startUnfit a ≡ false
-  pub room : noRoom a ≡ false
-  pub owned : ours own a ≡ true
-  pub kind : continues a ≡ more
+use Rattle.entries.specs.Standings.{isPlanned, startUnfit, noRoom, continues, ours, silent, sorted, standing, readAsStanding, Mine}
 
 -- the standing of an entry of ours, as a head or as one that continues
 abbrev pub standsAs : Bool → Allocation → Standing
@@ -64,18 +55,18 @@ apart-is-not : (v : Verdict) (b : Allocation) (more : Bool) → Apart v ≡ stan
 apart-is-not v b true e = cc
 apart-is-not v b false e = cc
 
-read-is : (own : Own) (e : Found Allocation) (b : Allocation) (more : Bool) → silent (own .activation) ≡ false → readAsStanding own e ≡ standsAs more b → Ours own e b more
+read-is : (own : Own) (e : Found Allocation) (b : Allocation) (more : Bool) → silent (own .activation) ≡ false → readAsStanding own e ≡ standsAs more b → Mine own e b more
 read-is own (fields a) b more z q =
     let s = sorted-is own a b more q in
     rw (← s .same) (record { read = refl; sends = z; fit = s .fit; room = s .room; owned = s .owned; kind = s .kind })
 read-is own unreadable b more z q = clash (apart-is-not Unreadable b more q)
 read-is own short b more z q = clash (apart-is-not Unreadable b more q)
 
-pub ours-is : (own : Own) (e : Found Allocation) (b : Allocation) (more : Bool) → standing own e ≡ standsAs more b → Ours own e b more
+pub ours-is : (own : Own) (e : Found Allocation) (b : Allocation) (more : Bool) → standing own e ≡ standsAs more b → Mine own e b more
 unfolding standing
 ours-is own e b more q = go (silent (own .activation)) refl q
   where
-    go : (z : Bool) → silent (own .activation) ≡ z → cond z (Apart Silent) (readAsStanding own e) ≡ standsAs more b → Ours own e b more
+    go : (z : Bool) → silent (own .activation) ≡ z → cond z (Apart Silent) (readAsStanding own e) ≡ standsAs more b → Mine own e b more
     go true p q = clash (apart-is-not Silent b more q)
     go false p q = read-is own e b more p q
 
@@ -98,3 +89,41 @@ head-start a wide fit kind = go (ltb lastStart (a .start)) refl
     go true p =
         let f : ⊥ = eqb-false (a .start) continuing kind (omega (arith, ltb-false (a .start) continuing (both-false (ltb lastStart (a .start)) (ltb (a .start) continuing) fit p))) in
         absurd f
+
+-- what stands apart is not planned
+unplanned-sorted : (own : Own) (a : Allocation) (v : Verdict) (s n o k : Bool)
+    → cond s (Apart StartTimeUnfit) (cond n (Apart DbruWithoutRoom) (cond o (cond k (More a) (Head a)) (Apart Foreign))) ≡ Apart v → isPlanned v ≡ false
+unplanned-sorted own a v true n o k e =
+    let q : StartTimeUnfit ≡ v = cc in
+    rw (← q) refl
+unplanned-sorted own a v false true o k e =
+    let q : DbruWithoutRoom ≡ v = cc in
+    rw (← q) refl
+unplanned-sorted own a v false false false k e =
+    let q : Foreign ≡ v = cc in
+    rw (← q) refl
+unplanned-sorted own a v false false true true e = clash (cc)
+unplanned-sorted own a v false false true false e = clash (cc)
+
+sorted-unplanned : (own : Own) (a : Allocation) (v : Verdict) → sorted own a ≡ Apart v → isPlanned v ≡ false
+unfolding sorted
+sorted-unplanned own a v e = unplanned-sorted own a v (startUnfit a) (noRoom a) (ours own a) (continues a) e
+
+read-unplanned : (own : Own) (e : Found Allocation) (v : Verdict) → readAsStanding own e ≡ Apart v → isPlanned v ≡ false
+read-unplanned own (fields a) v h = sorted-unplanned own a v h
+read-unplanned own unreadable v h =
+    let q : Unreadable ≡ v = cc in
+    rw (← q) refl
+read-unplanned own short v h =
+    let q : Unreadable ≡ v = cc in
+    rw (← q) refl
+
+pub apart-unplanned : (own : Own) (e : Found Allocation) (v : Verdict) → standing own e ≡ Apart v → isPlanned v ≡ false
+unfolding standing
+apart-unplanned own e v h = go (silent (own .activation)) h
+  where
+    go : (z : Bool) → cond z (Apart Silent) (readAsStanding own e) ≡ Apart v → isPlanned v ≡ false
+    go true q =
+        let r : Silent ≡ v = cc in
+        rw (← r) refl
+    go false q = read-unplanned own e v q

@@ -1,6 +1,7 @@
 -- The paper's "Map walk", first half: what an entry of the map is by itself, whatever stands around it.
 -- Assumes nothing.
 use Prim.Native.Nat.{ℕ}
+use mathlib.Core.Path.{_≡_}
 use mathlib.Core.Bool.{Bool, true, false, cond, _&&_, _||_}
 use mathlib.Core.List.{List}
 use lib.Dec.{eqb, ltb, leb}
@@ -97,6 +98,15 @@ readAsStanding own short = Apart Unreadable
 -- an entry of the map as it stands by itself; in a state that sends nothing, none is looked at
 unfoldable pub standing : Own → Found Allocation → Standing
 standing own e = cond (silent (own .activation)) (Apart Silent) (readAsStanding own e)
+
+-- the entry e is a: read, usable and ours, in a state that may send; one that continues, or a head
+pub record Mine (own : Own) (e : Found Allocation) (a : Allocation) (more : Bool) : Type 0 where
+  pub read : e ≡ fields a
+  pub sends : silent (own .activation) ≡ false
+  pub fit : startUnfit a ≡ false
+  pub room : noRoom a ≡ false
+  pub owned : ours own a ≡ true
+  pub kind : continues a ≡ more
 
 -- the structure at the start of a list of octets, its word read by lent tables
 abbrev pub readBy : List ℕ → List ℕ → List ℕ → List ℕ → Found Allocation
