@@ -6,3 +6,4 @@ pub mod Kept
 pub mod Once
 pub mod ReadBack
 pub mod Called
+pub mod Sums

@@ -7,3 +7,4 @@ pub mod Tables
 pub mod Turns
 pub mod Laser
 pub mod Verdicts
+pub mod Sums
