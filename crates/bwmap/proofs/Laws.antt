@@ -17,8 +17,12 @@ use Rattle.entries.specs.declared.Standing.the-variants.{Apart, Head, More}
 use Rattle.entries.specs.Standings.{standing}
 use Rattle.bwmap.specs.Series.{entryAt, entryCount, run, seriesOf, grants}
 use Rattle.bwmap.specs.Plan.{moreFlags, planRecord, moreNumbers}
-use Rattle.bwmap.specs.Turns.{rest, tally}
+use Rattle.bwmap.specs.Turns.{rest, orLater, seen, standOf, nextOf, NextHead, tally}
 use Rattle.bwmap.specs.declared.series.Run.{Run}
+use Rattle.bwmap.specs.declared.series.Next.{Next}
+use Rattle.bwmap.specs.declared.series.Next.the-variants.{At, Nowhere}
+use Rattle.bwmap.specs.declared.series.Seen.{Seen}
+use Rattle.bwmap.specs.declared.series.Seen.the-variants.{Head as SeenHead, More as SeenMore, Apart as SeenApart, Nothing as SeenNothing}
 
 -- ---- the entries that are left
 
@@ -106,3 +110,63 @@ write-step at k h a f p p′ l l′ e hf hp =
 
 pub write-done : (p : List ℕ) (at : ℕ) (h : Allocation) (l : List Allocation) → l ≡ [] → p ≡ sets p at (moreNumbers h l)
 write-done p at h l e = rw e
+
+-- ---- a look at entries
+
+module _ (own : Own) (m : List ℕ) where
+  -- one entry further
+  pub look-on : (heads : Bool) (i to : ℕ) (x : Standing) → i < to → x ≡ standing own (entryAt m i) → seen own m heads i (to - i) ≡ orLater heads i x (seen own m heads (i + 1) (to - (i + 1)))
+  look-on heads i to x h p =
+      let e : to - i ≡ suc (to - (i + 1)) = omega arith in
+      rw (e, add-one i, ← p)
+
+  pub look-past : (heads : Bool) (i to : ℕ) → to ≤ i → seen own m heads i (to - i) ≡ SeenNothing
+  look-past heads i to h =
+      let e : to - i ≡ 0 = omega arith in
+      rw e
+
+  pub look-one : (i : ℕ) → seen own m false i (i + 1 - i) ≡ orLater false i (standing own (entryAt m i)) SeenNothing
+  look-one i =
+      let e : i + 1 - i ≡ 1 = omega arith in
+      rw e
+
+  module _ (heads : Bool) (i to : ℕ) (x : Standing) (h : i < to) (p : x ≡ standing own (entryAt m i)) where
+    pub see-head : (a : Allocation) → x ≡ Head a → SeenHead i a ≡ seen own m heads i (to - i)
+    see-head a q = rw (look-on heads i to x h p, q)
+
+    pub see-more : (a : Allocation) → x ≡ More a → heads ≡ false → SeenMore a ≡ seen own m heads i (to - i)
+    see-more a q r = rw (look-on heads i to x h p, q, r)
+
+    pub see-apart : (v : Verdict) → x ≡ Apart v → heads ≡ false → SeenApart v ≡ seen own m heads i (to - i)
+    see-apart v q r = rw (look-on heads i to x h p, q, r)
+
+    pub past-more : (a : Allocation) → x ≡ More a → heads ≡ true → seen own m heads (i + 1) (to - (i + 1)) ≡ seen own m heads i (to - i)
+    past-more a q r = rw (look-on heads i to x h p, q, r)
+
+    pub past-apart : (v : Verdict) → x ≡ Apart v → heads ≡ true → seen own m heads (i + 1) (to - (i + 1)) ≡ seen own m heads i (to - i)
+    past-apart v q r = rw (look-on heads i to x h p, q, r)
+
+  -- a look at one entry finds what stands there
+  pub found-one : (i : ℕ) → standOf (seen own m false i (i + 1 - i)) ≡ standing own (entryAt m i)
+  found-one i = ap standOf (look-one i) ∙ go (standing own (entryAt m i))
+    where
+      go : (x : Standing) → standOf (orLater false i x SeenNothing) ≡ x
+      go (Head h) = refl
+      go (More a) = refl
+      go (Apart v) = refl
+
+  weaken : (i : ℕ) (r : Next) → seriesOf (rest own m (suc i)) ≡ seriesOf (rest own m i) → NextHead own m (suc i) r → NextHead own m i r
+  weaken i (At j h) e n = (omega arith, n .1, n .2, n .3 ∙ e)
+  weaken i Nowhere e n = sym e ∙ n
+
+  -- a look at all that are left for a head finds the next
+  pub found-next : (k i : ℕ) → k ≡ entryCount m - i → NextHead own m i (nextOf (seen own m true i k))
+  found-next zero i e = ap seriesOf (rest-nil own m i (omega arith))
+  found-next (suc k) i e = go (standing own (entryAt m i)) refl (found-next k (suc i) (omega arith))
+    where
+      go : (x : Standing) → standing own (entryAt m i) ≡ x → NextHead own m (suc i) (nextOf (seen own m true (suc i) k)) → NextHead own m i (nextOf (orLater true i x (seen own m true (suc i) k)))
+      go (Head h) q n = (omega arith, omega arith, q, refl)
+      go (More a) q n =
+          weaken i (nextOf (seen own m true (suc i) k)) (ap (λ (j : ℕ). seriesOf (rest own m j)) (sym (add-one i)) ∙ pass-more own m i (More a) (omega arith) (sym q) a refl) n
+      go (Apart v) q n =
+          weaken i (nextOf (seen own m true (suc i) k)) (ap (λ (j : ℕ). seriesOf (rest own m j)) (sym (add-one i)) ∙ pass-apart own m i (Apart v) (omega arith) (sym q) v refl) n

@@ -16,8 +16,8 @@ use Rattle.entries.specs.declared.Verdict.{Verdict}
 use Rattle.entries.specs.declared.Verdict.the-variants.{Planned, TooLong, Overlapping, AfterTheFourth}
 use Rattle.entries.specs.declared.Standing.{Standing}
 use Rattle.entries.specs.declared.Standing.the-variants.{Apart, Head, More}
-use Rattle.entries.specs.Standings.{standing, isPlanned}
-use Rattle.entries.proofs.Facts.{ours-is, head-start}
+use Rattle.entries.specs.Standings.{standing, isPlanned, silent}
+use Rattle.entries.proofs.Facts.{ours-is, head-start, silent-apart}
 use Rattle.bwmap.specs.Limits.{wordsABurst, burstsAFrame, planNumbers}
 use Rattle.bwmap.specs.Series.{Series, entryAt, entryCount, standingsFrom, run, seriesAt, seriesOf, grants, wordsOf, burstWords, endOf, judged, verdictOf, planned, lastEnd, carriedOver, plannedOf}
 use Rattle.bwmap.specs.Plan.{mark, moreFlags, planRecord, moreNumbers, seriesNumbers, numbers, entriesIn, records, messages, Left, counted, written}
@@ -225,3 +225,18 @@ finish p q w c over l small room e ho =
 
 pub from-start : (own : Own) (m p : List ℕ) (c : ℕ) → toCome own m p (starting c) ≡ outcome p (starting c) (plannedOf own m c)
 from-start own m p c = rw sub-zero
+
+-- ---- a state that sends nothing
+
+silent-none : (own : Own) (m : List ℕ) (i j : ℕ) → silent (own .activation) ≡ true → seriesOf (standingsFrom own m i j) ≡ []
+silent-none own m i zero h = refl
+silent-none own m i (suc j) h = rw (silent-apart own (entryAt m i) h) (silent-none own m (suc i) j h)
+
+pub silent-plan
+    : (own : Own) (m p : List ℕ) (c end over : ℕ) → silent (own .activation) ≡ true → end ≡ c → over ≡ carriedOver end
+    → _≡_ {A = Left}
+    (record { answer = PlannedAnswer (record { records = 0; bursts = 0; messages = 0; end = end; carried = over }); plan = p })
+    (record { answer = PlannedAnswer (counted c (plannedOf own m c)); plan = written (plannedOf own m c) p })
+silent-plan own m p c end over h e o =
+    let n : plannedOf own m c ≡ [] = ap (planned c 0) (silent-none own m 0 (entryCount m) h) in
+    rw (n, o, e)

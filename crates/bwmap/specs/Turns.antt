@@ -1,12 +1,14 @@
 -- What the turns of the walk's loops come to. Nothing public speaks of these.
 -- Assumes nothing.
-use Prim.Native.Nat.{ℕ, _+_, _-_, _*_, _≤_, _<_}
+use mathlib.Core.Bool.{Bool, cond}
+use Prim.Native.Nat.{ℕ, zero, suc, _+_, _-_, _*_, _≤_, _<_}
 use mathlib.Core.Path.{_≡_}
 use mathlib.Core.List.{List, []}
 use lib.ListN.{length}
 use lib.Seq.{sets}
 use Rattle.framing.specs.declared.allocation.Allocation.{Allocation}
 use Rattle.entries.specs.declared.Own.{Own}
+use Rattle.entries.specs.declared.Verdict.the-variants.{Unreadable}
 use Rattle.entries.specs.declared.Standing.{Standing}
 use Rattle.entries.specs.declared.Standing.the-variants.{Apart, Head, More}
 use Rattle.entries.specs.Standings.{standing}
@@ -15,12 +17,36 @@ use Rattle.bwmap.specs.Series.{Series, entryAt, entryCount, standingsFro
 use Rattle.bwmap.specs.Plan.{numbers, records, messages}
 use Rattle.bwmap.specs.declared.series.Next.{Next}
 use Rattle.bwmap.specs.declared.series.Next.the-variants.{At, Nowhere}
+use Rattle.bwmap.specs.declared.series.Seen.{Seen}
+use Rattle.bwmap.specs.declared.series.Seen.the-variants.{Head as SeenHead, More as SeenMore, Apart as SeenApart, Nothing as SeenNothing}
 use Rattle.bwmap.specs.declared.series.Run.{Run}
 use Rattle.bwmap.specs.declared.Walk.{Walk}
 
 -- the entries from the i-th on
 abbrev pub rest : Own → List ℕ → ℕ → List Standing
 rest own m i = standingsFrom own m i (entryCount m - i)
+
+-- what a look at k entries from the i-th on finds first: a head of ours, or whatever stands there
+abbrev pub orLater : Bool → ℕ → Standing → Seen → Seen
+orLater heads i (Head h) later = SeenHead i h
+orLater heads i (More a) later = cond heads later (SeenMore a)
+orLater heads i (Apart v) later = cond heads later (SeenApart v)
+
+abbrev pub seen : Own → List ℕ → Bool → ℕ → ℕ → Seen
+seen own m heads i zero = SeenNothing
+seen own m heads i (suc k) = orLater heads i (standing own (entryAt m i)) (seen own m heads (suc i) k)
+
+abbrev pub standOf : Seen → Standing
+standOf (SeenHead i h) = Head h
+standOf (SeenMore a) = More a
+standOf (SeenApart v) = Apart v
+standOf SeenNothing = Apart Unreadable
+
+abbrev pub nextOf : Seen → Next
+nextOf (SeenHead i h) = At i h
+nextOf (SeenMore a) = Nowhere
+nextOf (SeenApart v) = Nowhere
+nextOf SeenNothing = Nowhere
 
 -- the next head of ours: between `from` and it no series begins
 abbrev pub NextHead : Own → List ℕ → ℕ → Next → Type 0

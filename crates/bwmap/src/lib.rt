@@ -164,6 +164,16 @@ pub fn plan_map(map: &[u8], own: Own, carried: u16, plan: &mut [u16]) -> Answer
     if plan.len() < PLAN_NUMBERS {
         return Answer::PlanTooShort;
     }
+    if own.is_silent() {
+        let end = series::long(carried);
+        return Answer::Planned(Plan {
+            records: 0,
+            bursts: 0,
+            messages: 0,
+            end: end,
+            carried: carried_over(end),
+        });
+    }
     let syndromes = hec::syndromes::table();
     let remainders = hec::remainders::table();
     let flips = hec::flips::table();

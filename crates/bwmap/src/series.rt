@@ -3,13 +3,13 @@ use entries::Own;
 use entries::Standing;
 use entries::Verdict;
 use framing::allocation::Allocation;
-ghost use Prim.Native.Nat.{_+_, _*_, _≤_, _<_};
+ghost use Prim.Native.Nat.{_+_, _-_, _*_, _≤_, _<_};
 ghost use mathlib.Core.Path.{_≡_};
 ghost use lib.ListN.{length};
 ghost use Rattle.entries.specs.Standings.{standing};
 ghost use Rattle.bwmap.specs.Series.{entryAt, entryCount, run, wordsOf, judged};
 ghost use Rattle.bwmap.specs.Tables.{Tables};
-ghost use Rattle.bwmap.specs.Turns.{rest, NextHead, tally};
+ghost use Rattle.bwmap.specs.Turns.{rest, seen, NextHead, tally};
 
 // Octets of an allocation structure.
 pub(crate) const STRUCTURE_OCTETS: usize = 8;
@@ -31,6 +31,14 @@ pub enum Next {
     Nowhere,
 }
 
+// What a look at entries finds first.
+pub enum Seen {
+    Head(usize, Allocation),
+    More(Allocation),
+    Apart(Verdict),
+    Nothing,
+}
+
 // How many entries continue a burst, and the sum of their GrantSizes.
 pub struct Run {
     pub count: usize,
@@ -44,7 +52,7 @@ pub(crate) fn long(x: u16) -> usize
 }
 
 // The i-th entry of a map.
-pub(crate) fn standing_at(
+fn read_at(
     syndromes: &[u16; 2048],
     remainders: &[u16; 63],
     flips: &[u16; 4096],
@@ -59,6 +67,44 @@ pub(crate) fn standing_at(
     own.standing_by(syndromes, remainders, flips, &map[at..])
 }
 
+// The first of the entries from `from` to `to`, or the first head of ours among them. All reading is done here, in one
+// loop: most entries of a map are foreign.
+fn scan(
+    syndromes: &[u16; 2048],
+    remainders: &[u16; 63],
+    flips: &[u16; 4096],
+    map: &[u8],
+    own: Own,
+    from: usize,
+    to: usize,
+    heads: bool,
+) -> Seen
+    requires { ⌜ Tables (now syndromes) (now remainders) (now flips) × (to ≤ entryCount (now map)) ⌝ }
+    ensures { λ r. ⌜ r ≡ seen own (now (map .entry)) heads from (to - from) ⌝ }
+{
+    let mut i = from;
+    while i < to {
+        match read_at(syndromes, remainders, flips, map, own, i) {
+            Standing::Head(h) => {
+                return Seen::Head(i, h);
+            }
+            Standing::More(a) => {
+                if !heads {
+                    return Seen::More(a);
+                }
+                i += 1;
+            }
+            Standing::Apart(v) => {
+                if !heads {
+                    return Seen::Apart(v);
+                }
+                i += 1;
+            }
+        }
+    }
+    Seen::Nothing
+}
+
 pub(crate) fn next_head(
     syndromes: &[u16; 2048],
     remainders: &[u16; 63],
@@ -71,21 +117,32 @@ pub(crate) fn next_head(
     ensures { λ r. ⌜ NextHead own (now (map .entry)) from r ⌝ }
 {
     let n = map.len() / STRUCTURE_OCTETS;
-    let mut i = from;
-    while i < n {
-        match standing_at(syndromes, remainders, flips, map, own, i) {
-            Standing::Head(h) => {
-                return Next::At(i, h);
-            }
-            Standing::More(_) => {
-                i += 1;
-            }
-            Standing::Apart(_) => {
-                i += 1;
-            }
-        }
+    match scan(syndromes, remainders, flips, map, own, from, n, true) {
+        Seen::Head(i, h) => Next::At(i, h),
+        Seen::More(_) => Next::Nowhere,
+        Seen::Apart(_) => Next::Nowhere,
+        Seen::Nothing => Next::Nowhere,
     }
-    Next::Nowhere
+}
+
+// The i-th entry of a map, by itself.
+pub(crate) fn standing_at(
+    syndromes: &[u16; 2048],
+    remainders: &[u16; 63],
+    flips: &[u16; 4096],
+    map: &[u8],
+    own: Own,
+    i: usize,
+) -> Standing
+    requires { ⌜ Tables (now syndromes) (now remainders) (now flips) × (i < entryCount (now map)) ⌝ }
+    ensures { λ r. ⌜ r ≡ standing own (entryAt (now (map .entry)) i) ⌝ }
+{
+    match scan(syndromes, remainders, flips, map, own, i, i + 1, false) {
+        Seen::Head(_, h) => Standing::Head(h),
+        Seen::More(a) => Standing::More(a),
+        Seen::Apart(v) => Standing::Apart(v),
+        Seen::Nothing => Standing::Apart(Verdict::Unreadable),
+    }
 }
 
 // The entries from `from` on that continue a burst.

@@ -1,41 +1,62 @@
 -- `bwmap::series::standing_at` meets its contract.
 -- Assumes nothing.
-use mathlib.Core.Path.{_∙_, ap}
-use native.Mathlib.Omega.{arith}
+use mathlib.Core.Path.{_∙_, sym, ap}
 use denote.Ref.{now}
-use Rattle.entries.specs.Standings.{standing}
-use Rattle.bwmap.proofs.Reading.{read-entry}
+use Rattle.bwmap.specs.Turns.{standOf}
+use Rattle.bwmap.proofs.Laws.{found-one}
 use borrow.Author.Needs.{needs}
 use Rattle.bwmap.proofs.series.standing_at.Statement.{statement}
 use Rattle.bwmap.proofs.series.standing_at.Tie as tie
 
-mul-at : tie.Need-mul-at
-mul-at c = search needs
+add-scan : tie.Need-add-scan
+add-scan c = search needs
 
-sub-standing-by : tie.Need-sub-standing-by
-sub-standing-by c = search needs
+scan-requires : tie.Need-scan-requires
+scan-requires c κs = search needs
 
-part-standing-by-start : tie.Need-part-standing-by-start
-part-standing-by-start c = search needs
+enum-known-h : tie.Need-enum-known-h
+enum-known-h c = search needs
 
-part-standing-by-end : tie.Need-part-standing-by-end
-part-standing-by-end c = search needs
+enum-known-a : tie.Need-enum-known-a
+enum-known-a c = search needs
 
-standing-by-requires : tie.Need-standing-by-requires
-standing-by-requires c κs = search needs
+enum-known-v : tie.Need-enum-known-v
+enum-known-v c = search needs
+
+enum-told : tie.Need-enum-told
+enum-told c = search needs
 
 returns : tie.Need-returns
 returns c =
-    let a = c .before .before .before .args in
-    c .standing-by .ensures ∙ ap (standing (a .own)) (read-entry (now (a .syndromes)) (now (a .remainders)) (now (a .flips)) (now (a .map)) (c .before .before .before .pre .0) (λ k. omega (arith, c .before .before .shared-slice-known .given k)) (a .i))
+    let a = c .before .before .before .before .before .args in
+    sym (ap standOf (c .before .h .given .1)) ∙ (ap standOf (c .before .before .before .scan .ensures) ∙ found-one (a .own) (now (a .map)) (a .i))
+
+returns-2 : tie.Need-returns-2
+returns-2 c =
+    let a = c .before .before .before .before .before .args in
+    sym (ap standOf (c .before .a .given .1)) ∙ (ap standOf (c .before .before .before .scan .ensures) ∙ found-one (a .own) (now (a .map)) (a .i))
+
+returns-3 : tie.Need-returns-3
+returns-3 c =
+    let a = c .before .before .before .before .before .args in
+    sym (ap standOf (c .before .v .given .1)) ∙ (ap standOf (c .before .before .before .scan .ensures) ∙ found-one (a .own) (now (a .map)) (a .i))
+
+returns-4 : tie.Need-returns-4
+returns-4 c =
+    let a = c .before .before .before .before .args in
+    sym (ap standOf (c .enum-told .given .1)) ∙ (ap standOf (c .before .before .scan .ensures) ∙ found-one (a .own) (now (a .map)) (a .i))
 
 pub standing-at-spec : {M : Type 1} → statement M
 standing-at-spec =
     tie.close
     (tie.spec
-    mul-at
-    sub-standing-by
-    part-standing-by-start
-    part-standing-by-end
-    standing-by-requires
-    returns)
+    add-scan
+    scan-requires
+    enum-known-h
+    enum-known-a
+    enum-known-v
+    enum-told
+    returns
+    returns-2
+    returns-3
+    returns-4)
