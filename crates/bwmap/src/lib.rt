@@ -81,14 +81,15 @@ fn burst(
     let next = from + r.count;
     let words = series::burst_words(h, r.grants);
     let start = series::long(h.start);
-    let verdict = series::judge(w.end, w.bursts, start, words);
+    let last = w.end;
+    let verdict = series::judge(last, w.bursts, start, words);
     if !verdict.is_planned() {
         return Walk {
             at: next,
             records: w.records,
             bursts: w.bursts,
             messages: w.messages,
-            end: w.end,
+            end: last,
         };
     }
     let place = records::NUMBERS_A_RECORD * w.records;
