@@ -1,0 +1,9 @@
+pub mod Reading
+pub mod Laws
+pub mod Steps
+pub mod Determined
+pub mod Kept
+pub mod Once
+pub mod ReadBack
+pub mod Called
+pub mod Sums

@@ -1,0 +1,242 @@
+-- What one series does to what is still to come.
+-- Assumes nothing.
+use Prim.Native.Nat.{ℕ, zero, suc, _+_, _-_, _*_, _≤_, _<_, _^_, zero-le}
+use mathlib.Core.Path.{_≡_, _∙_, refl, sym, ap}
+use mathlib.Core.List.{List, [], _∷_, _++_}
+use mathlib.Core.Bool.{Bool, true, false, cond, false≢true}
+use native.Mathlib.Omega.{arith}
+use native.Mathlib.Nat.{add-zero, zero-add, sub-zero}
+use lib.Dec.{leb, ltb}
+use lib.ListN.{length, drop, length-append}
+use lib.Seq.{sets, sets-eq}
+use borrow.Author.Tests.{ltb-false, leb-false, le-leb}
+use Rattle.framing.specs.declared.allocation.Allocation.{Allocation}
+use Rattle.entries.specs.declared.Own.{Own}
+use Rattle.entries.specs.declared.Verdict.{Verdict}
+use Rattle.entries.specs.declared.Verdict.the-variants.{Planned, TooLong, Overlapping, AfterTheFourth}
+use Rattle.entries.specs.declared.Standing.{Standing}
+use Rattle.entries.specs.declared.Standing.the-variants.{Apart, Head, More}
+use Rattle.entries.specs.Standings.{standing, isPlanned, silent}
+use Rattle.entries.proofs.Facts.{ours-is, head-start, silent-apart}
+use Rattle.bwmap.specs.Limits.{wordsABurst, burstsAFrame, planNumbers}
+use Rattle.bwmap.specs.Series.{Series, entryAt, entryCount, standingsFrom, run, seriesAt, seriesOf, grants, wordsOf, burstWords, endOf, judged, verdictOf, planned, lastEnd, carriedOver, plannedOf}
+use Rattle.bwmap.specs.Plan.{mark, moreFlags, planRecord, moreNumbers, seriesNumbers, numbers, entriesIn, records, messages, Left, counted, written}
+use Rattle.bwmap.specs.Turns.{rest, tally, Outcome, outcome, toCome, movedTo, starting, Small}
+use Rattle.bwmap.specs.declared.series.Run.{Run}
+use Rattle.bwmap.specs.declared.Walk.{Walk}
+use Rattle.bwmap.specs.declared.Plan.{Plan}
+use Rattle.bwmap.specs.declared.Answer.{Answer}
+use Rattle.bwmap.specs.declared.Answer.the-variants.{Planned as PlannedAnswer}
+use Rattle.bwmap.proofs.Laws.{rest-cons, rest-nil}
+
+-- ---- lists
+
+sets-append : (p : List ℕ) (i : ℕ) (xs ys : List ℕ) → sets p i (xs ++ ys) ≡ sets (sets p i xs) (i + length xs) ys
+sets-append p i [] ys = rw (add-zero i)
+sets-append p i (x ∷ xs) ys =
+    let e : i + suc (length xs) ≡ suc i + length xs = omega arith in
+    rw e (sets-append _ (suc i) xs ys)
+
+pub length-more : (h : Allocation) (l : List Allocation) → length (moreNumbers h l) ≡ 4 * length l
+length-more h [] = refl
+length-more h (a ∷ l) =
+    let ih = length-more h l in
+    omega arith
+
+pub length-series : (s : Series) → length (seriesNumbers s) ≡ 4 * entriesIn s
+unfolding seriesNumbers
+length-series s =
+    let n = length-more (s .head) (s .more) in
+    omega arith
+
+-- the count of records is true
+pub length-numbers : (l : List Series) → length (numbers l) ≡ 4 * records l
+length-numbers [] = refl
+length-numbers (s ∷ l) =
+    let ih = length-numbers l in
+    omega (arith, length-append (seriesNumbers s) (numbers l), length-series s)
+
+-- ---- a run, and what stands behind it
+
+pub run-length : (k : ℕ) (l : List Standing) → (length (run k l) ≤ length l) × (length (run k l) ≤ k)
+run-length zero l = (zero-le, zero-le)
+run-length (suc k) [] = (zero-le, zero-le)
+run-length (suc k) (Apart v ∷ l) = (zero-le, zero-le)
+run-length (suc k) (Head a ∷ l) = (zero-le, zero-le)
+run-length (suc k) (More a ∷ l) =
+    let ih = run-length k l in
+    (omega arith, omega arith)
+
+-- what continues a series begins none
+series-drop : (k : ℕ) (l : List Standing) → seriesOf (drop (length (run k l)) l) ≡ seriesOf l
+series-drop zero l = refl
+series-drop (suc k) [] = refl
+series-drop (suc k) (Apart v ∷ l) = refl
+series-drop (suc k) (Head a ∷ l) = refl
+series-drop (suc k) (More a ∷ l) = series-drop k l
+
+module _ (own : Own) (m : List ℕ) where
+  length-standings : (i j : ℕ) → length (standingsFrom own m i j) ≡ j
+  length-standings i zero = refl
+  length-standings i (suc j) = ap suc (length-standings (suc i) j)
+
+  drop-standings : (n i j : ℕ) → drop n (standingsFrom own m i j) ≡ standingsFrom own m (i + n) (j - n)
+  drop-standings zero i j = rw (add-zero i, sub-zero)
+  drop-standings (suc n) i zero =
+      let e : 0 - suc n ≡ 0 = omega arith in
+      rw e
+  drop-standings (suc n) i (suc j) =
+      let a : i + suc n ≡ suc i + n = omega arith in
+      let b : suc j - suc n ≡ j - n = omega arith in
+      rw (a, b) (drop-standings n (suc i) j)
+
+  skip : (i n : ℕ) → n ≡ length (run 15 (rest own m i)) → seriesOf (rest own m (i + n)) ≡ seriesOf (rest own m i)
+  skip i n h =
+      let e : entryCount m - i - n ≡ entryCount m - (i + n) = omega arith in
+      let d : drop n (rest own m i) ≡ rest own m (i + n) = drop-standings n i (entryCount m - i) ∙ ap (standingsFrom own m (i + n)) e in
+      ap seriesOf (sym d) ∙ ap (λ (k : ℕ). seriesOf (drop k (rest own m i))) h ∙ series-drop 15 (rest own m i)
+
+-- ---- the verdict on a series
+
+passes : (a b d : Bool) → isPlanned (cond a TooLong (cond b Overlapping (cond d AfterTheFourth Planned))) ≡ true → (a ≡ false) × (b ≡ false) × (d ≡ false)
+passes true b d h = absurd (false≢true h)
+passes false true d h = absurd (false≢true h)
+passes false false true h = absurd (false≢true h)
+passes false false false h = (refl, refl, refl)
+
+pub planned-facts : (e n start words : ℕ) → isPlanned (judged e n start words) ≡ true → (words ≤ wordsABurst) × (e ≤ start) × (n < burstsAFrame)
+unfolding judged
+planned-facts e n start words h =
+    let t = passes (ltb wordsABurst words) (ltb start e) (leb burstsAFrame n) h in
+    (ltb-false wordsABurst words (t .0), ltb-false start e (t .1), leb-false burstsAFrame n (t .2))
+
+full : (a b : Bool) → isPlanned (cond a TooLong (cond b Overlapping AfterTheFourth)) ≡ false
+full true b = refl
+full false true = refl
+full false false = refl
+
+-- after the fourth nothing is planned
+pub no-fifth : (e n start words : ℕ) → burstsAFrame ≤ n → isPlanned (judged e n start words) ≡ false
+unfolding judged
+no-fifth e n start words h = rw (le-leb burstsAFrame n h) (full (ltb wordsABurst words) (ltb start e))
+
+pub planned-full : (e n : ℕ) (l : List Series) → burstsAFrame ≤ n → planned e n l ≡ []
+planned-full e n [] h = refl
+planned-full e n (s ∷ l) h = rw (no-fifth e n (s .head .start) (burstWords s) h) (planned-full e n l h)
+
+-- ---- an outcome, one burst at a time
+
+outcome-cons
+    : (p q : List ℕ) (w w′ : Walk) (s : Series) (l : List Series) → q ≡ sets p (4 * w .records) (seriesNumbers s)
+    → w′ .records ≡ w .records + entriesIn s → w′ .bursts ≡ w .bursts + 1 → w′ .messages ≡ w .messages + mark (s .head .ploamu) 1 → w′ .end ≡ endOf s
+    → outcome q w′ l ≡ outcome p w (s ∷ l)
+outcome-cons p q w w′ s l hq hr hb hm he =
+    let a = length-series s in
+    let at : 4 * w′ .records ≡ 4 * w .records + length (seriesNumbers s) = omega arith in
+    let f : sets q (4 * w′ .records) (numbers l) ≡ sets p (4 * w .records) (seriesNumbers s ++ numbers l) =
+    rw (hq, at) (sym (sets-append p (4 * w .records) (seriesNumbers s) (numbers l)))
+    in
+    let b : w′ .records + records l ≡ w .records + (entriesIn s + records l) = omega arith in
+    let d : w′ .bursts + length l ≡ w .bursts + suc (length l) = omega arith in
+    let g : w′ .messages + messages l ≡ w .messages + (mark (s .head .ploamu) 1 + messages l) = omega arith in
+    let k : lastEnd (w′ .end) l ≡ lastEnd (endOf s) l = ap (λ (e : ℕ). lastEnd e l) he in
+    λ i. record { plan = f i; records = b i; bursts = d i; messages = g i; end = k i }
+
+-- ---- one series
+
+module _
+    (own : Own) (m : List ℕ) (at : ℕ) (h : Allocation) (lies : at < entryCount m) (heads : standing own (entryAt m at) ≡ Head h)
+    (r : Run) (hr : r ≡ tally 0 0 (run 15 (rest own m (at + 1)))) where
+  here : rest own m at ≡ Head h ∷ rest own m (at + 1)
+  here = rw (rest-cons own m at lies, heads)
+
+  count-is : r .count ≡ length (run 15 (rest own m (at + 1)))
+  count-is = rw (hr, zero-add)
+
+  grants-are : r .grants ≡ grants (run 15 (rest own m (at + 1)))
+  grants-are = rw (hr, zero-add)
+
+  pub run-within : at + 1 + r .count ≤ entryCount m
+  run-within =
+      let a = run-length 15 (rest own m (at + 1)) .0 in
+      omega (arith, length-standings own m (at + 1) (entryCount m - (at + 1)), count-is)
+
+  pub head-low : h .start < 2 ^ 16 → h .start ≤ 9719
+  head-low wide =
+      let o = ours-is own (entryAt m at) h false heads in
+      head-start h wide (o .fit) (o .kind)
+
+  behind : seriesOf (rest own m (at + 1 + r .count)) ≡ seriesOf (rest own m (at + 1))
+  behind = skip own m (at + 1) (r .count) count-is
+
+  module _ (p : List ℕ) (w : Walk) (start words : ℕ) (hs : start ≡ h .start) (hw : words ≡ wordsOf h (r .grants)) (v : Verdict) (hv : v ≡ judged (w .end) (w .bursts) start words) where
+    judged-so : v ≡ verdictOf (w .end) (w .bursts) (seriesAt h (rest own m (at + 1)))
+    judged-so = hv ∙ cc (hs, hw, grants-are)
+
+    pub pass-series : isPlanned v ≡ false → toCome own m p (movedTo (at + 1 + r .count) w) ≡ toCome own m p (movedTo at w)
+    pass-series t =
+        let u : isPlanned (verdictOf (w .end) (w .bursts) (seriesAt h (rest own m (at + 1)))) ≡ false = ap isPlanned (sym judged-so) ∙ t in
+        rw (here, behind, u)
+
+    pub plan-series
+        : (q : List ℕ) (x : ℕ) → isPlanned v ≡ true → q ≡ sets p (4 * w .records) (seriesNumbers (seriesAt h (rest own m (at + 1)))) → x ≡ mark (h .ploamu) 1
+        → toCome own m q (record { at = at + 1 + r .count; records = w .records + (r .count + 1); bursts = w .bursts + 1; messages = w .messages + x; end = start + words })
+        ≡ toCome own m p (movedTo at w)
+    plan-series q x t hq hx =
+        let u : isPlanned (verdictOf (w .end) (w .bursts) (seriesAt h (rest own m (at + 1)))) ≡ true = ap isPlanned (sym judged-so) ∙ t in
+        let e : start + words ≡ endOf (seriesAt h (rest own m (at + 1))) = cc (hs, hw, grants-are) in
+        let c : w .records + (r .count + 1) ≡ w .records + entriesIn (seriesAt h (rest own m (at + 1))) = cc count-is in
+        let g : w .messages + x ≡ w .messages + mark (h .ploamu) 1 = cc hx in
+        rw (here, behind, u)
+        (ap (λ (z : ℕ). outcome q (record { at = 0; records = w .records + (r .count + 1); bursts = w .bursts + 1; messages = w .messages + x; end = start + words }) (planned z (w .bursts + 1) (seriesOf (rest own m (at + 1))))) e
+        ∙ outcome-cons p q w (record { at = 0; records = w .records + (r .count + 1); bursts = w .bursts + 1; messages = w .messages + x; end = start + words }) (seriesAt h (rest own m (at + 1))) (planned (endOf (seriesAt h (rest own m (at + 1)))) (w .bursts + 1) (seriesOf (rest own m (at + 1)))) hq c refl g e)
+
+-- ---- the end of the walk
+
+module _ (own : Own) (m p : List ℕ) (w : Walk) where
+  pub walk-done : entryCount m ≤ w .at → outcome p w [] ≡ toCome own m p w
+  walk-done h = rw (rest-nil own m (w .at) h)
+
+  pub walk-full : burstsAFrame ≤ w .bursts → outcome p w [] ≡ toCome own m p w
+  walk-full h = rw (planned-full (w .end) (w .bursts) (seriesOf (rest own m (w .at))) h)
+
+  -- from the next head on, or to the end
+  pub move-to : (i : ℕ) → seriesOf (rest own m i) ≡ seriesOf (rest own m (w .at)) → toCome own m p (movedTo i w) ≡ toCome own m p w
+  move-to i e = rw e
+
+  pub move-past : seriesOf (rest own m (w .at)) ≡ [] → toCome own m p (movedTo (entryCount m) w) ≡ toCome own m p w
+  move-past e = move-to (entryCount m) (ap seriesOf (rest-nil own m (entryCount m) (omega arith)) ∙ sym e)
+
+-- what the walk has written and counted is the plan
+pub finish
+    : (p q : List ℕ) (w : Walk) (c over : ℕ) (l : List Series) → Small w → planNumbers ≤ length p → outcome q w [] ≡ outcome p (starting c) l → over ≡ carriedOver (w .end)
+    → _≡_ {A = Left}
+    (record { answer = PlannedAnswer (record { records = w .records; bursts = w .bursts; messages = w .messages; end = w .end; carried = over }); plan = q })
+    (record { answer = PlannedAnswer (counted c l); plan = written l p })
+finish p q w c over l small room e ho =
+    let hr : w .records ≡ records l = sym (add-zero (w .records)) ∙ ap (λ (o : Outcome). o .records) e ∙ zero-add (records l) in
+    let hb : w .bursts ≡ length l = sym (add-zero (w .bursts)) ∙ ap (λ (o : Outcome). o .bursts) e ∙ zero-add (length l) in
+    let hm : w .messages ≡ messages l = sym (add-zero (w .messages)) ∙ ap (λ (o : Outcome). o .messages) e ∙ zero-add (messages l) in
+    let he : w .end ≡ lastEnd c l = ap (λ (o : Outcome). o .end) e in
+    let hc : over ≡ carriedOver (lastEnd c l) = ho ∙ ap carriedOver he in
+    let fits : 0 + length (numbers l) ≤ length p = omega (arith, length-numbers l, small .few, small .room) in
+    let hq : q ≡ written l p = ap (λ (o : Outcome). o .plan) e ∙ sets-eq (numbers l) p 0 fits ∙ ap (λ (k : ℕ). numbers l ++ drop k p) (zero-add (length (numbers l))) in
+    λ i. record { answer = PlannedAnswer (record { records = hr i; bursts = hb i; messages = hm i; end = he i; carried = hc i }); plan = hq i }
+
+pub from-start : (own : Own) (m p : List ℕ) (c : ℕ) → toCome own m p (starting c) ≡ outcome p (starting c) (plannedOf own m c)
+from-start own m p c = rw sub-zero
+
+-- ---- a state that sends nothing
+
+silent-none : (own : Own) (m : List ℕ) (i j : ℕ) → silent (own .activation) ≡ true → seriesOf (standingsFrom own m i j) ≡ []
+silent-none own m i zero h = refl
+silent-none own m i (suc j) h = rw (silent-apart own (entryAt m i) h) (silent-none own m (suc i) j h)
+
+pub silent-plan
+    : (own : Own) (m p : List ℕ) (c end over : ℕ) → silent (own .activation) ≡ true → end ≡ c → over ≡ carriedOver end
+    → _≡_ {A = Left}
+    (record { answer = PlannedAnswer (record { records = 0; bursts = 0; messages = 0; end = end; carried = over }); plan = p })
+    (record { answer = PlannedAnswer (counted c (plannedOf own m c)); plan = written (plannedOf own m c) p })
+silent-plan own m p c end over h e o =
+    let n : plannedOf own m c ≡ [] = ap (planned c 0) (silent-none own m 0 (entryCount m) h) in
+    rw (n, o, e)

@@ -1,0 +1,10 @@
+pub mod Limits
+pub mod Series
+pub mod Plan
+pub mod Promises
+pub mod Upstream
+pub mod Tables
+pub mod Turns
+pub mod Laser
+pub mod Verdicts
+pub mod Sums

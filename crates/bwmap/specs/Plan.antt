@@ -1,0 +1,93 @@
+-- The plan: records of four numbers for each entry that is planned, and what is counted of them.
+-- Assumes nothing.
+use Prim.Native.Nat.{ℕ, suc, _+_, _*_}
+use mathlib.Core.Path.{_≡_}
+use mathlib.Core.Bool.{Bool, cond}
+use mathlib.Core.List.{List, [], _∷_, _++_}
+use lib.Dec.{leb}
+use lib.ListN.{length, drop}
+use Rattle.framing.specs.declared.allocation.Allocation.{Allocation}
+use Rattle.entries.specs.declared.Own.{Own}
+use Rattle.bwmap.specs.Limits.{planNumbers}
+use Rattle.bwmap.specs.Series.{Series, plannedOf, lastEnd, carriedOver}
+use Rattle.bwmap.specs.declared.Plan.{Plan}
+use Rattle.bwmap.specs.declared.Answer.{Answer}
+use Rattle.bwmap.specs.declared.Answer.the-variants.{Planned, PlanTooShort}
+
+-- ---- "flags (head 1, head's PLOAMu 2, DBRu 4, FWI 8, profile times 16)"
+
+abbrev pub mark : Bool → ℕ → ℕ
+mark set weight = cond set weight 0
+
+-- "FWI and profile are the head's throughout"
+unfoldable pub burstFlags : Allocation → ℕ
+burstFlags h = mark (h .fwi) 8 + h .profile * 16
+
+unfoldable pub headFlags : Allocation → ℕ
+headFlags h = 1 + mark (h .ploamu) 2 + mark (h .dbru) 4 + burstFlags h
+
+-- "and flags 1 and 2 stand only on the head"
+unfoldable pub moreFlags : Allocation → Allocation → ℕ
+moreFlags h a = mark (a .dbru) 4 + burstFlags h
+
+-- ---- "Plan record: Alloc-ID; flags; burst start; GrantSize"
+
+abbrev pub planRecord : Allocation → ℕ → ℕ → List ℕ
+planRecord a flags start = a .alloc .0 ∷ flags ∷ start ∷ a .grant ∷ []
+
+abbrev pub moreNumbers : Allocation → List Allocation → List ℕ
+moreNumbers h [] = []
+moreNumbers h (a ∷ l) = planRecord a (moreFlags h a) (h .start) ++ moreNumbers h l
+
+unfoldable pub seriesNumbers : Series → List ℕ
+seriesNumbers s = planRecord (s .head) (headFlags (s .head)) (s .head .start) ++ moreNumbers (s .head) (s .more)
+
+abbrev pub numbers : List Series → List ℕ
+numbers [] = []
+numbers (s ∷ l) = seriesNumbers s ++ numbers l
+
+-- ---- what is counted
+
+abbrev pub entriesIn : Series → ℕ
+entriesIn s = length (s .more) + 1
+
+abbrev pub records : List Series → ℕ
+records [] = 0
+records (s ∷ l) = entriesIn s + records l
+
+-- the bursts that send a message: those whose head has PLOAMu
+abbrev pub messages : List Series → ℕ
+messages [] = 0
+messages (s ∷ l) = mark (s .head .ploamu) 1 + messages l
+
+-- ---- the plan of a map
+
+-- what the call answers, and what the lent plan then holds
+pub record Left : Type 0 where
+  pub answer : Answer
+  pub plan : List ℕ
+
+abbrev pub counted : ℕ → List Series → Plan
+counted carried l =
+    record {
+      records = records l;
+      bursts = length l;
+      messages = messages l;
+      end = lastEnd carried l;
+      carried = carriedOver (lastEnd carried l);
+    }
+
+-- "Past what is written, plan .. keep their old content"
+abbrev pub written : List Series → List ℕ → List ℕ
+written l plan = numbers l ++ drop (length (numbers l)) plan
+
+-- a plan of fewer than 256 numbers is refused and left as it is
+abbrev pub planOf : Own → List ℕ → ℕ → List ℕ → Left
+planOf own m carried plan =
+    cond (leb planNumbers (length plan))
+    (record { answer = Planned (counted carried (plannedOf own m carried)); plan = written (plannedOf own m carried) plan })
+    (record { answer = PlanTooShort; plan = plan })
+
+-- the whole contract of the walk
+abbrev pub MapLeaves : Own → List ℕ → ℕ → List ℕ → Answer → List ℕ → Type 0
+MapLeaves own m carried plan answer left = record { answer = answer; plan = left } ≡ planOf own m carried plan

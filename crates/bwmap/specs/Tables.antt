@@ -1,0 +1,10 @@
+-- The tables by which a walk reads: each is named once, and lent.
+-- Assumes nothing.
+use mathlib.Core.List.{List}
+use Prim.Native.Nat.{ℕ}
+use Rattle.hec.specs.Lent.{Syndromes, Remainders, Flips}
+
+pub record Tables (syndromes remainders flips : List ℕ) : Type 0 where
+  pub octets : Syndromes syndromes
+  pub places : Remainders remainders
+  pub repairs : Flips flips

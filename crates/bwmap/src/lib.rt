@@ -1,0 +1,189 @@
+// The walk over the bandwidth map (clause 8.1.2): the series of ours, which of them are planned, and the plan that the
+// laser obeys.
+mod records;
+mod series;
+
+use entries::Own;
+use framing::allocation::Allocation;
+ghost use Prim.Native.Nat.{_+_, _*_, _≤_, _<_};
+ghost use mathlib.Core.Path.{_≡_};
+ghost use lib.ListN.{length};
+ghost use mathlib.Core.List.{[]};
+ghost use Rattle.entries.specs.declared.Standing.the-variants.{Head};
+ghost use Rattle.entries.specs.Standings.{standing};
+ghost use Rattle.bwmap.specs.Limits.{planNumbers};
+ghost use Rattle.bwmap.specs.Series.{entryAt, entryCount, carriedOver};
+ghost use Rattle.bwmap.specs.Tables.{Tables};
+ghost use Rattle.bwmap.specs.Turns.{outcome, toCome, movedTo, starting, Small};
+ghost use Rattle.bwmap.specs.Plan.{MapLeaves};
+use series::Next;
+
+// Numbers that a plan must have room for.
+const PLAN_NUMBERS: usize = 256;
+
+// Words of an upstream frame.
+const UPSTREAM_WORDS: usize = 9720;
+
+// What is planned of a map.
+pub struct Plan {
+    // Records of four numbers at the start of the plan.
+    pub records: usize,
+    pub bursts: usize,
+    // Bursts whose head has PLOAMu: each sends one message.
+    pub messages: usize,
+    // The word where the last burst ends; where none is planned, the words carried over from the frame before.
+    pub end: usize,
+    // Words of the next upstream frame that the last burst takes.
+    pub carried: u16,
+}
+
+pub enum Answer {
+    Planned(Plan),
+    PlanTooShort,
+}
+
+// How far a walk has come: the next entry, and what is planned of those before it.
+pub struct Walk {
+    pub at: usize,
+    pub records: usize,
+    pub bursts: usize,
+    pub messages: usize,
+    pub end: usize,
+}
+
+fn carried_over(end: usize) -> u16
+    requires { ⌜ end ≤ 65535 ⌝ }
+    ensures { λ r. ⌜ r ≡ carriedOver end ⌝ }
+{
+    if end < UPSTREAM_WORDS {
+        return 0;
+    }
+    (end - UPSTREAM_WORDS) as u16
+}
+
+// The series whose head stands at `at`: planned and written, or passed over.
+fn burst(
+    syndromes: &[u16; 2048],
+    remainders: &[u16; 63],
+    flips: &[u16; 4096],
+    map: &[u8],
+    own: Own,
+    at: usize,
+    h: Allocation,
+    w: Walk,
+    plan: &mut [u16],
+) -> Walk
+    requires { ⌜ Tables (now syndromes) (now remainders) (now flips) × (at < entryCount (now map)) × (standing own (entryAt (now map) at) ≡ Head h) × (planNumbers ≤ length (now plan)) × Small w ⌝ }
+    ensures { λ r. ⌜ Small r × (at < r .at) × (r .at ≤ entryCount (now (map .entry))) × (toCome own (now (map .entry)) (now (plan .exit)) r ≡ toCome own (now (map .entry)) (now (plan .entry)) (movedTo at w)) ⌝ }
+{
+    let from = at + 1;
+    let r = series::run_from(syndromes, remainders, flips, map, own, from);
+    let next = from + r.count;
+    let words = series::burst_words(h, r.grants);
+    let start = series::long(h.start);
+    let last = w.end;
+    let verdict = series::judge(last, w.bursts, start, words);
+    if !verdict.is_planned() {
+        return Walk {
+            at: next,
+            records: w.records,
+            bursts: w.bursts,
+            messages: w.messages,
+            end: last,
+        };
+    }
+    let place = records::NUMBERS_A_RECORD * w.records;
+    records::write_series(syndromes, remainders, flips, map, own, from, h, plan, place);
+    Walk {
+        at: next,
+        records: w.records + (r.count + 1),
+        bursts: w.bursts + 1,
+        messages: w.messages + records::mark(h.ploamu, 1),
+        end: start + words,
+    }
+}
+
+// The next series of ours, if there is one.
+fn turn(
+    syndromes: &[u16; 2048],
+    remainders: &[u16; 63],
+    flips: &[u16; 4096],
+    map: &[u8],
+    own: Own,
+    w: Walk,
+    plan: &mut [u16],
+) -> Walk
+    requires { ⌜ Tables (now syndromes) (now remainders) (now flips) × (w .at < entryCount (now map)) × (planNumbers ≤ length (now plan)) × Small w ⌝ }
+    ensures { λ r. ⌜ Small r × (w .at < r .at) × (r .at ≤ entryCount (now (map .entry))) × (toCome own (now (map .entry)) (now (plan .exit)) r ≡ toCome own (now (map .entry)) (now (plan .entry)) w) ⌝ }
+{
+    match series::next_head(syndromes, remainders, flips, map, own, w.at) {
+        Next::At(at, h) => burst(syndromes, remainders, flips, map, own, at, h, w, plan),
+        Next::Nowhere => Walk {
+            at: map.len() / series::STRUCTURE_OCTETS,
+            records: w.records,
+            bursts: w.bursts,
+            messages: w.messages,
+            end: w.end,
+        },
+    }
+}
+
+// The walk over the whole map. Once the last burst that a frame may have is planned, every series is passed over.
+fn walk_map(
+    syndromes: &[u16; 2048],
+    remainders: &[u16; 63],
+    flips: &[u16; 4096],
+    map: &[u8],
+    own: Own,
+    carried: u16,
+    plan: &mut [u16],
+) -> Walk
+    requires { ⌜ Tables (now syndromes) (now remainders) (now flips) × (planNumbers ≤ length (now plan)) ⌝ }
+    ensures { λ r. ⌜ Small r × (outcome (now (plan .exit)) r [] ≡ toCome own (now (map .entry)) (now (plan .entry)) (starting carried)) ⌝ }
+{
+    let mut w = Walk {
+        at: 0,
+        records: 0,
+        bursts: 0,
+        messages: 0,
+        end: series::long(carried),
+    };
+    let n = map.len() / series::STRUCTURE_OCTETS;
+    while w.at < n {
+        if series::BURSTS_A_FRAME <= w.bursts {
+            return w;
+        }
+        w = turn(syndromes, remainders, flips, map, own, w, plan);
+    }
+    w
+}
+
+// The plan of a map: records of four numbers at the start of the lent plan, the rest of which keeps its content.
+pub fn plan_map(map: &[u8], own: Own, carried: u16, plan: &mut [u16]) -> Answer
+    ensures { λ r. ⌜ MapLeaves own (now (map .entry)) carried (now (plan .entry)) r (now (plan .exit)) ⌝ }
+{
+    if plan.len() < PLAN_NUMBERS {
+        return Answer::PlanTooShort;
+    }
+    if own.is_silent() {
+        let end = series::long(carried);
+        return Answer::Planned(Plan {
+            records: 0,
+            bursts: 0,
+            messages: 0,
+            end: end,
+            carried: carried_over(end),
+        });
+    }
+    let syndromes = hec::syndromes::table();
+    let remainders = hec::remainders::table();
+    let flips = hec::flips::table();
+    let w = walk_map(&syndromes, &remainders, &flips, map, own, carried, plan);
+    Answer::Planned(Plan {
+        records: w.records,
+        bursts: w.bursts,
+        messages: w.messages,
+        end: w.end,
+        carried: carried_over(w.end),
+    })
+}

@@ -1,0 +1,113 @@
+-- The paper's "Map walk", first half: what an entry of the map is by itself, whatever stands around it.
+-- Assumes nothing.
+use Prim.Native.Nat.{ℕ}
+use mathlib.Core.Path.{_≡_}
+use mathlib.Core.Bool.{Bool, true, false, cond, _&&_, _||_}
+use mathlib.Core.List.{List}
+use lib.Dec.{eqb, ltb, leb}
+use Rattle.ids.specs.declared.AllocId.{AllocId}
+use Rattle.ids.specs.declared.OnuId.{OnuId}
+use Rattle.ids.specs.Ids.{sameAlloc, defaultAlloc, broadcastAlloc}
+use Rattle.hec.specs.Lent.{readingBy}
+use Rattle.framing.specs.declared.allocation.Allocation.{Allocation}
+use Rattle.framing.specs.Layouts.{allocationOf}
+use Rattle.framing.specs.Reads.{Found, fields, unreadable, short, readAs}
+use Rattle.station.specs.declared.Activation.{Activation}
+use Rattle.station.specs.declared.Activation.the-variants.{Initial, SerialNumber, Ranging, Operation, Intermittent, EmergencyStop}
+use Rattle.station.specs.declared.held.Allocs.{Allocs}
+use Rattle.station.specs.Lists.{some}
+use Rattle.station.specs.Held.{heldAllocs}
+use Rattle.entries.specs.Limits.{structureOctets, lastStart, continuing}
+use Rattle.entries.specs.declared.Own.{Own}
+use Rattle.entries.specs.declared.Verdict.{Verdict}
+use Rattle.entries.specs.declared.Verdict.the-variants.{Planned, Unreadable, StartTimeUnfit, DbruWithoutRoom, Foreign, ContinuingNothing, Seventeenth, TooLong, Overlapping, AfterTheFourth, Silent}
+use Rattle.entries.specs.declared.Standing.{Standing}
+use Rattle.entries.specs.declared.Standing.the-variants.{Apart, Head, More}
+
+abbrev pub isPlanned : Verdict → Bool
+isPlanned Planned = true
+isPlanned Unreadable = false
+isPlanned StartTimeUnfit = false
+isPlanned DbruWithoutRoom = false
+isPlanned Foreign = false
+isPlanned ContinuingNothing = false
+isPlanned Seventeenth = false
+isPlanned TooLong = false
+isPlanned Overlapping = false
+isPlanned AfterTheFourth = false
+isPlanned Silent = false
+
+-- "if StartTime is 9,720 to 65,534"
+unfoldable pub startUnfit : Allocation → Bool
+startUnfit a = ltb lastStart (a .start) && ltb (a .start) continuing
+
+-- "or if DBRu is set with GrantSize 0"
+unfoldable pub noRoom : Allocation → Bool
+noRoom a = a .dbru && eqb (a .grant) 0
+
+-- "65,535 continues the burst"; of what is usable, all else is a head
+unfoldable pub continues : Allocation → Bool
+continues a = eqb (a .start) continuing
+
+-- "the ONU-ID and the added Alloc-IDs"
+unfoldable pub held : OnuId → Allocs → AllocId → Bool
+held onu allocs id = sameAlloc id (defaultAlloc onu) || some (sameAlloc id) (heldAllocs allocs)
+
+-- "only a head to 1023 with PLOAMu and GrantSize 0"
+unfoldable pub discovery : Allocation → Bool
+discovery a = leb (a .start) lastStart && (sameAlloc (a .alloc) broadcastAlloc && (a .ploamu && eqb (a .grant) 0))
+
+-- "the ONU-ID, the head with PLOAMu"
+unfoldable pub ranging : OnuId → Allocation → Bool
+ranging onu a = sameAlloc (a .alloc) (defaultAlloc onu) && (continues a || a .ploamu)
+
+-- "Ours means: in O2-3 ..; in O4 ..; in O5 ... In O1, O6 and O7 nothing is ours."
+abbrev pub oursIn : Activation → OnuId → Allocs → Allocation → Bool
+oursIn Initial onu allocs a = false
+oursIn SerialNumber onu allocs a = discovery a
+oursIn (Ranging left) onu allocs a = ranging onu a
+oursIn Operation onu allocs a = held onu allocs (a .alloc)
+oursIn (Intermittent left) onu allocs a = false
+oursIn EmergencyStop onu allocs a = false
+
+abbrev pub ours : Own → Allocation → Bool
+ours own a = oursIn (own .activation) (own .onu) (own .allocs) a
+
+-- the states in which nothing is ours
+abbrev pub silent : Activation → Bool
+silent Initial = true
+silent SerialNumber = false
+silent (Ranging left) = false
+silent Operation = false
+silent (Intermittent left) = true
+silent EmergencyStop = true
+
+-- an entry that could be read: not of ours, for the first reason that applies, or a head of ours, or one that continues
+unfoldable pub sorted : Own → Allocation → Standing
+sorted own a =
+    cond (startUnfit a) (Apart StartTimeUnfit)
+    (cond (noRoom a) (Apart DbruWithoutRoom)
+    (cond (ours own a) (cond (continues a) (More a) (Head a)) (Apart Foreign)))
+
+-- "A structure is unusable if unreadable"
+abbrev pub readAsStanding : Own → Found Allocation → Standing
+readAsStanding own (fields a) = sorted own a
+readAsStanding own unreadable = Apart Unreadable
+readAsStanding own short = Apart Unreadable
+
+-- an entry of the map as it stands by itself; in a state that sends nothing, none is looked at
+unfoldable pub standing : Own → Found Allocation → Standing
+standing own e = cond (silent (own .activation)) (Apart Silent) (readAsStanding own e)
+
+-- the entry e is a: read, usable and ours, in a state that may send; one that continues, or a head
+pub record Mine (own : Own) (e : Found Allocation) (a : Allocation) (more : Bool) : Type 0 where
+  pub read : e ≡ fields a
+  pub sends : silent (own .activation) ≡ false
+  pub fit : startUnfit a ≡ false
+  pub room : noRoom a ≡ false
+  pub owned : ours own a ≡ true
+  pub kind : continues a ≡ more
+
+-- the structure at the start of a list of octets, its word read by lent tables
+abbrev pub readBy : List ℕ → List ℕ → List ℕ → List ℕ → Found Allocation
+readBy syndromes remainders flips s = readAs (readingBy syndromes remainders flips structureOctets) structureOctets allocationOf s

@@ -1,0 +1,231 @@
+// The entries of the bandwidth map (clause 8.1.2), each by itself: read, usable or not, and whose it is.
+use framing::allocation::Allocation;
+use framing::allocation::AllocationRead;
+use ids::AllocId;
+use ids::OnuId;
+use station::Activation;
+use station::held::Allocs;
+ghost use mathlib.Core.Path.{_≡_};
+ghost use mathlib.Core.Bool.{_||_, _&&_};
+ghost use lib.ListN.{take};
+ghost use Rattle.framing.specs.Reads.{foundAllocation};
+ghost use Rattle.station.specs.Lists.{some};
+ghost use Rattle.ids.specs.Ids.{sameAlloc};
+ghost use Rattle.entries.specs.Standings.{isPlanned, startUnfit, noRoom, continues, held, discovery, ranging, ours, silent, sorted, standing, readBy};
+
+// The last word of an upstream frame, and the StartTime that stands for none: such an entry continues the burst.
+const LAST_START: u16 = 9719;
+
+const CONTINUING: u16 = 65535;
+
+// What decides which grants are a station's, as its frame arrives.
+pub struct Own {
+    pub activation: Activation,
+    pub onu: OnuId,
+    pub allocs: Allocs,
+}
+
+// What becomes of an entry of the map.
+pub enum Verdict {
+    Planned,
+    Unreadable,
+    StartTimeUnfit,
+    DbruWithoutRoom,
+    Foreign,
+    ContinuingNothing,
+    Seventeenth,
+    TooLong,
+    Overlapping,
+    AfterTheFourth,
+    Silent,
+}
+
+// An entry by itself: apart from every series, for a reason; or of ours, a head or one that continues.
+pub enum Standing {
+    Apart(Verdict),
+    Head(Allocation),
+    More(Allocation),
+}
+
+impl Verdict {
+    pub fn is_planned(self) -> bool
+        ensures { λ r. ⌜ r ≡ isPlanned self ⌝ }
+    {
+        match self {
+            Verdict::Planned => true,
+            Verdict::Unreadable => false,
+            Verdict::StartTimeUnfit => false,
+            Verdict::DbruWithoutRoom => false,
+            Verdict::Foreign => false,
+            Verdict::ContinuingNothing => false,
+            Verdict::Seventeenth => false,
+            Verdict::TooLong => false,
+            Verdict::Overlapping => false,
+            Verdict::AfterTheFourth => false,
+            Verdict::Silent => false,
+        }
+    }
+}
+
+fn start_unfit(a: Allocation) -> bool
+    ensures { λ r. ⌜ r ≡ startUnfit a ⌝ }
+{
+    LAST_START < a.start && a.start < CONTINUING
+}
+
+fn no_room(a: Allocation) -> bool
+    ensures { λ r. ⌜ r ≡ noRoom a ⌝ }
+{
+    a.dbru && a.grant == 0
+}
+
+fn continues(a: Allocation) -> bool
+    ensures { λ r. ⌜ r ≡ continues a ⌝ }
+{
+    a.start == CONTINUING
+}
+
+fn or_is(hit: bool, within: bool, id: AllocId, other: AllocId) -> bool
+    ensures { λ r. ⌜ r ≡ hit || (within && sameAlloc id other) ⌝ }
+{
+    if hit {
+        return true;
+    }
+    if within {
+        return id.is(other);
+    }
+    false
+}
+
+// Whether the Alloc-ID is among the first n. All places are compared, which is faster than to stop early.
+fn among(ids: [AllocId; 16], n: usize, id: AllocId) -> bool
+    ensures { λ r. ⌜ r ≡ some (sameAlloc id) (take n ids) ⌝ }
+{
+    let mut hit = false;
+    let mut i: usize = 0;
+    while i < station::held::ADDED_ALLOCS {
+        let other = ids[i];
+        hit = or_is(hit, i < n, id, other);
+        i += 1;
+    }
+    hit
+}
+
+fn held(onu: OnuId, allocs: Allocs, id: AllocId) -> bool
+    ensures { λ r. ⌜ r ≡ held onu allocs id ⌝ }
+{
+    if id.is(onu.default_alloc()) {
+        return true;
+    }
+    let ids = allocs.ids;
+    among(ids, allocs.count, id)
+}
+
+fn discovery(a: Allocation) -> bool
+    ensures { λ r. ⌜ r ≡ discovery a ⌝ }
+{
+    let id = a.alloc;
+    if LAST_START < a.start {
+        return false;
+    }
+    if !id.is(AllocId::broadcast()) {
+        return false;
+    }
+    if a.ploamu {
+        return a.grant == 0;
+    }
+    false
+}
+
+fn ranging(onu: OnuId, a: Allocation) -> bool
+    ensures { λ r. ⌜ r ≡ ranging onu a ⌝ }
+{
+    let id = a.alloc;
+    if !id.is(onu.default_alloc()) {
+        return false;
+    }
+    if continues(a) {
+        return true;
+    }
+    a.ploamu
+}
+
+impl Own {
+    // In O1, O6 and O7 a station sends nothing.
+    pub fn is_silent(self) -> bool
+        ensures { λ r. ⌜ r ≡ silent (self .activation) ⌝ }
+    {
+        let activation = self.activation;
+        match activation {
+            Activation::Initial => true,
+            Activation::SerialNumber => false,
+            Activation::Ranging(_) => false,
+            Activation::Operation => false,
+            Activation::Intermittent(_) => true,
+            Activation::EmergencyStop => true,
+        }
+    }
+
+    pub fn owns(self, a: Allocation) -> bool
+        ensures { λ r. ⌜ r ≡ ours self a ⌝ }
+    {
+        let activation = self.activation;
+        let onu = self.onu;
+        match activation {
+            Activation::Initial => false,
+            Activation::SerialNumber => discovery(a),
+            Activation::Ranging(_) => ranging(onu, a),
+            Activation::Operation => {
+                let allocs = self.allocs;
+                held(onu, allocs, a.alloc)
+            }
+            Activation::Intermittent(_) => false,
+            Activation::EmergencyStop => false,
+        }
+    }
+
+    fn sort(self, a: Allocation) -> Standing
+        ensures { λ r. ⌜ r ≡ sorted self a ⌝ }
+    {
+        if start_unfit(a) {
+            return Standing::Apart(Verdict::StartTimeUnfit);
+        }
+        if no_room(a) {
+            return Standing::Apart(Verdict::DbruWithoutRoom);
+        }
+        if self.owns(a) {
+            if continues(a) {
+                return Standing::More(a);
+            }
+            return Standing::Head(a);
+        }
+        Standing::Apart(Verdict::Foreign)
+    }
+
+    pub fn standing(self, read: AllocationRead) -> Standing
+        ensures { λ r. ⌜ r ≡ standing self (foundAllocation read) ⌝ }
+    {
+        if self.is_silent() {
+            return Standing::Apart(Verdict::Silent);
+        }
+        match read {
+            AllocationRead::Fields(a) => self.sort(a),
+            AllocationRead::Unreadable => Standing::Apart(Verdict::Unreadable),
+            AllocationRead::Short => Standing::Apart(Verdict::Unreadable),
+        }
+    }
+
+    // The entry at the start of a slice, its word read by lent tables.
+    pub fn standing_by(
+        self,
+        syndromes: &[u16; 2048],
+        remainders: &[u16; 63],
+        flips: &[u16; 4096],
+        s: &[u8],
+    ) -> Standing
+        ensures { λ r. ⌜ r ≡ standing self (readBy (now (syndromes .entry)) (now (remainders .entry)) (now (flips .entry)) (now (s .entry))) ⌝ }
+    {
+        let read = framing::allocation::read_allocation_by(syndromes, remainders, flips, s);
+        self.standing(read)
+    }
+}
