@@ -9,6 +9,8 @@ use Rattle.hec.proofs.SyndromeRule.{syndromes}
 use Rattle.hec.proofs.FlipRule.{flips}
 use Rattle.framing.specs.Layouts.{hlendOf}
 use Rattle.framing.specs.Reads.{taken}
+use Rattle.bwmap.proofs.Sums.{sum-8, sum-9, sum-10, sum-11}
+use Rattle.conduct.proofs.Sums.{sum-12}
 use Rattle.demands.specs.Sums.{Sums, hlendGives}
 
 pub sums : Sums
@@ -25,4 +27,9 @@ sums =
       );
       sum-6 = ap (taken hlendOf) (computed32 0x00002A74 (lit< tt) unreadable refl);
       sum-7 = (refl, refl, refl, refl);
+      sum-8 = sum-8;
+      sum-9 = sum-9;
+      sum-10 = sum-10;
+      sum-11 = sum-11;
+      sum-12 = sum-12;
     }

@@ -1,17 +1,18 @@
--- Document 01's "Sums to prove", one table: the theorem `sums` says that each row holds. (Rows 8 to 12 join it with the
--- crates that define a plan and what a message does.)
+-- Document 01's "Sums to prove", one table: the theorem `sums` says that each of the twelve rows holds.
 -- Assumes nothing.
 use mathlib.Core.Path.{_≡_}
 use Prim.Native.Nat.{ℕ}
 use Rattle.framing.specs.Octets.{octets}
 use Rattle.framing.specs.Layouts.{payloadSize}
 use Rattle.framing.specs.Reads.{fields, unreadable, readHlend}
+use Rattle.bwmap.specs.Sums.{Sum8, Sum9, Sum10, Sum11}
+use Rattle.conduct.proofs.Sums.{Sum12}
 
 -- the four octets of HLend give a BWmap length and a PLOAM count
 abbrev pub hlendGives : ℕ → ℕ → ℕ → Type 0
 hlendGives word bwmap ploam = readHlend (octets 4 word) ≡ fields (record { bwmap = bwmap; ploam = ploam })
 
-pub record Sums : Type 0 where
+pub record Sums : Type 1 where
   pub sum-1 : hlendGives 0x00000000 0 0
   pub sum-2 : hlendGives 0x00002A73 0 1
   pub sum-3 : hlendGives 0x002013AC 1 0
@@ -21,3 +22,10 @@ pub record Sums : Type 0 where
   pub sum-6 : readHlend (octets 4 0x00002A74) ≡ unreadable
   -- what a payload of that PLI takes
   pub sum-7 : (payloadSize 1 ≡ 8) × (payloadSize 8 ≡ 8) × (payloadSize 9 ≡ 12) × (payloadSize 16383 ≡ 16384)
+  -- a plan, what an overlap passes over, what is carried over, and what is too long
+  pub sum-8 : Sum8
+  pub sum-9 : Sum9
+  pub sum-10 : Sum10
+  pub sum-11 : Sum11
+  -- Relative -1 at delay 0: unchanged, parameter error
+  pub sum-12 : Sum12
