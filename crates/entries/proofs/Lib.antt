@@ -1,2 +1,3 @@
 pub mod Lookup
 pub mod Facts
+pub mod Once

@@ -1,0 +1,21 @@
+-- No second outcome: each public function's answer is fixed by what it is given.
+-- Assumes nothing.
+use Prim.Native.Nat.{ℕ}
+use mathlib.Core.Path.{_≡_, _∙_, sym}
+use mathlib.Core.Bool.{Bool}
+use mathlib.Core.List.{List}
+use Rattle.entries.specs.declared.Own.{Own}
+use Rattle.entries.specs.declared.Verdict.{Verdict}
+use Rattle.entries.specs.declared.Standing.{Standing}
+use Rattle.entries.specs.Standings.{isPlanned, silent, standing, readBy}
+
+pub standing-by-once
+    : (own : Own) (syndromes remainders flips s : List ℕ) (a b : Standing)
+    → a ≡ standing own (readBy syndromes remainders flips s) → b ≡ standing own (readBy syndromes remainders flips s) → a ≡ b
+standing-by-once own syndromes remainders flips s a b p q = p ∙ sym q
+
+pub is-silent-once : (own : Own) (a b : Bool) → a ≡ silent (own .activation) → b ≡ silent (own .activation) → a ≡ b
+is-silent-once own a b p q = p ∙ sym q
+
+pub is-planned-once : (v : Verdict) (a b : Bool) → a ≡ isPlanned v → b ≡ isPlanned v → a ≡ b
+is-planned-once v a b p q = p ∙ sym q
