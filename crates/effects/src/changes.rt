@@ -7,8 +7,7 @@ use crate::Effect;
 use ids::OnuId;
 use station::Activation;
 use station::Station;
-
-const TO1: u32 = 80000;
+use station::limits::TO1;
 
 // O2-3 to O4, with TO1 started.
 fn identify(s: Station, onu: OnuId) -> Station

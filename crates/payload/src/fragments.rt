@@ -7,10 +7,8 @@ ghost use Rattle.payload.specs.Fragments.{slotOf, atSlot, effectOf, afte
 ghost use Rattle.payload.specs.Bounds.{Within};
 use ids::PortId;
 use station::held::Place;
+use station::limits::SLOT_BYTES;
 use station::slots::Ports;
-
-// The bytes of a slot: no SDU that comes in fragments is longer.
-pub const SLOT_BYTES: usize = 2048;
 
 pub enum Effect {
     Nothing,

@@ -7,8 +7,8 @@ ghost use Rattle.payload.specs.Memory.{put, delivery, taken};
 ghost use Rattle.payload.specs.Bounds.{Ready};
 use super::fragments;
 use super::fragments::Effect;
-use super::fragments::SLOT_BYTES;
 use ids::PortId;
+use station::limits::SLOT_BYTES;
 use station::slots::Ports;
 
 // How far the walk is, beside the two lent buffers.

@@ -6,12 +6,12 @@ ghost use Rattle.hec.specs.Lent.{Syndromes, Remainders, Flips};
 ghost use Rattle.station.specs.Slots.{dropAll};
 ghost use Rattle.payload.specs.Bounds.{Ready};
 ghost use Rattle.payload.specs.Walk.{walkOf, allWithin, receiveOf};
-use super::fragments::SLOT_BYTES;
 use super::frames;
 use super::frames::Next;
 use super::memory;
 use super::memory::Progress;
 use ids::PortId;
+use station::limits::SLOT_BYTES;
 use station::slots::Ports;
 
 // The memory of 17 slots.

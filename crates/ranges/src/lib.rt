@@ -14,12 +14,9 @@ use ids::PortId;
 use station::Activation;
 use station::Station;
 use station::held::Allocs;
-
-const TO1: u32 = 80000;
-
-const TO2: u32 = 800;
-
-const SLOT_BYTES: u16 = 2048;
+use station::limits::SLOT_BYTES;
+use station::limits::TO1;
+use station::limits::TO2;
 
 // The last word of an upstream frame.
 const LAST_WORD: u16 = 9719;
@@ -175,7 +172,7 @@ fn partial_fits(bytes: u16, waits: bool, empty: bool) -> bool
     if empty {
         return bytes == 0;
     }
-    bytes <= SLOT_BYTES
+    bytes as usize <= SLOT_BYTES
 }
 
 fn partials_fit(ids: [PortId; 16], lengths: [u16; 17], waiting: [bool; 17]) -> bool

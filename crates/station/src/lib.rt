@@ -9,6 +9,7 @@ use slots::Ports;
 
 pub mod answers;
 pub mod held;
+pub mod limits;
 pub mod slots;
 
 // The states of clause 12.1. Only O4 and O6 count, and only they carry a count: what is left of TO1 and of TO2.
@@ -122,14 +123,14 @@ impl Station {
     {
         let serial = self.serial;
         let registration = self.registration;
-        let link = Link::nothing();
+        let forgotten = Link::nothing();
         let ports = self.ports;
         let dropped = ports.drop_all();
         Station {
             activation: activation,
             serial: serial,
             registration: registration,
-            link: link,
+            link: forgotten,
             ports: dropped,
             carried: self.carried,
         }

@@ -4,8 +4,7 @@ ghost use mathlib.Core.Path.{_≡_};
 ghost use Rattle.timing.specs.Timing.{countTo1, countTo2, silence, frameEnd, lostState, lostTime, unreadState, unreadTime};
 use station::Activation;
 use station::Station;
-
-const TO2: u32 = 800;
+use station::limits::TO2;
 
 // TO1 counts down, and at 0 goes to O2-3.
 fn count_to1(s: Station, left: u32) -> Station
