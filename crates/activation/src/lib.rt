@@ -80,7 +80,7 @@ pub fn receive_all(s: Station, messages: &[u8]) -> Station
     if messages.len() < MESSAGE_OCTETS {
         return s;
     }
-    let t = aes::MIX;
+    let t = aes::table::MIX;
     let usual = ploam::integrity::default_key();
     let link = s.link;
     let key = link.key;

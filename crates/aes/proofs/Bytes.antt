@@ -12,7 +12,7 @@ use Rattle.aes.specs.Field.{sBox, affine, inverse, square, gmul, product
 use Rattle.aes.specs.Cipher.{rcon}
 use Rattle.aes.specs.ByTable.{mixOf, turned, entryOf}
 use Rattle.aes.specs.MixTable.{mixTable}
-use Rattle.aes.proofs.Table.{at}
+use Rattle.aes.proofs.Entries.{at}
 
 -- the entries of the first row
 rule : ℕ → ℕ → Bool

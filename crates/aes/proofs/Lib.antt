@@ -1,7 +1,7 @@
 pub mod Blocks
 pub mod Rounds
 pub mod Xor
-pub mod Table
+pub mod Entries
 pub mod Bytes
 pub mod Octets
 pub mod Ciphers

@@ -1,6 +1,6 @@
 -- No second outcome meets a contract of this crate; refusals are exact; right means equal.
 -- Assumes nothing.
-use mathlib.Core.Path.{_≡_, _∙_, sym}
+use mathlib.Core.Path.{_≡_, _∙_, sym, ap}
 use mathlib.Core.Bool.{Bool, true, false, and-false}
 use mathlib.Core.List.{List}
 use Prim.Native.Nat.{ℕ, _<_}
@@ -12,7 +12,7 @@ use Rattle.ploam.specs.Layout.{messageOctets, micField}
 use Rattle.ploam.specs.Reading.{received}
 use Rattle.ploam.specs.Integrity.{same, micOf, micRight, micRightBy, genuineBy}
 use Rattle.ploam.specs.Upstream.{upstreamAddress, heard}
-use Rattle.ploam.specs.Writing.{Outcome, written, Leaves}
+use Rattle.ploam.specs.Writing.{numberOf, Outcome, written, Leaves}
 use Rattle.ploam.specs.declared.Direction.{Direction}
 use Rattle.ploam.specs.declared.Heard.{Heard}
 use Rattle.ploam.specs.declared.Received.{Received}
@@ -47,12 +47,22 @@ right-means-equal key direction m e =
     (right-true (leb messageOctets (length m)) (same (micField m) (micOf key direction m)) e)
 
 -- answer 11, and nothing changed
+pub record Refused (target : List ℕ) (left : Outcome) : Type 0 where
+  pub number : numberOf (left .answer) ≡ 11
+  pub kept : left .target ≡ target
+
+refused : (target : List ℕ) (left : Outcome) → left ≡ record { answer = Unfit; target = target } → Refused target left
+refused target left e =
+    record { number = ap (λ (o : Outcome). numberOf (o .answer)) e; kept = ap (λ (o : Outcome). o .target) e }
+
 pub refused-wide : (installed : List ℕ) (message : UpstreamMessage) (id target : List ℕ) → 1023 < upstreamAddress message .0
-    → written installed message id target ≡ record { answer = Unfit; target = target }
+    → Refused target (written installed message id target)
 unfolding written
-refused-wide installed message id target h = simp (lt-leb (upstreamAddress message .0) 1023 h)
+refused-wide installed message id target h =
+    refused target (written installed message id target) (simp (lt-leb (upstreamAddress message .0) 1023 h))
 
 pub refused-short : (installed : List ℕ) (message : UpstreamMessage) (id target : List ℕ) → length target < messageOctets
-    → written installed message id target ≡ record { answer = Unfit; target = target }
+    → Refused target (written installed message id target)
 unfolding written
-refused-short installed message id target h = simp (lt-leb messageOctets (length target) h, and-false)
+refused-short installed message id target h =
+    refused target (written installed message id target) (simp (lt-leb messageOctets (length target) h, and-false))

@@ -78,7 +78,7 @@ pub fn reply_all(s: Station, n: usize, delay: u32, replies: &mut [u8]) -> Statio
     if k == 0 {
         return s;
     }
-    let t = aes::MIX;
+    let t = aes::table::MIX;
     let usual = ploam::integrity::default_key();
     let link = s.link;
     let key = link.key;
