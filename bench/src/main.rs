@@ -4,6 +4,8 @@
 //!     bench           compare, then print nanoseconds an operation and the ratio of ours to the peer's
 
 mod headers;
+mod map;
+mod messages;
 mod payload;
 
 use std::hint::black_box;
@@ -51,6 +53,8 @@ fn main() {
         println!("{:<36} {:>9} {:>9} {:>7}", "ns an operation", "peer", "ours", "ratio");
     }
     headers::run(!check);
+    messages::run(!check);
+    map::run(!check);
     payload::run(!check);
     black_box(());
 }

@@ -1,2 +1,4 @@
 pub mod Sums
 pub mod Ports
+pub mod Maps
+pub mod Messages

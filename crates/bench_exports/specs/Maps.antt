@@ -1,0 +1,20 @@
+-- Whose grants the map benchmark looks for: O5, ONU-ID 5, and the added Alloc-IDs 2000, 2011, and so on.
+-- Assumes nothing.
+use mathlib.Core.List.{List, [], _∷_}
+use Prim.Native.Nat.{ℕ, zero, suc, _+_}
+use Rattle.ids.specs.declared.AllocId.{AllocId}
+use Rattle.station.specs.declared.Activation.the-variants.{Operation}
+use Rattle.entries.specs.declared.Own.{Own}
+use Rattle.bwmap.specs.declared.Answer.{Answer}
+use Rattle.bwmap.specs.declared.Answer.the-variants.{Planned, PlanTooShort}
+
+abbrev pub allocsFrom : ℕ → ℕ → List AllocId
+allocsFrom zero n = []
+allocsFrom (suc count) n = record { 0 = n } ∷ allocsFrom count (n + 11)
+
+abbrev pub benchOwn : Own
+benchOwn = record { activation = Operation; onu = record { 0 = 5 }; allocs = record { ids = allocsFrom 16 2000; count = 16 } }
+
+abbrev pub recordsOf : Answer → ℕ
+recordsOf (Planned p) = p .records
+recordsOf PlanTooShort = 0
