@@ -8,7 +8,7 @@ use native.Mathlib.Omega.{arith}
 use native.Mathlib.Numerals.{add-one}
 use lib.Dec.{ltb}
 use lib.ListN.{length, getD, take}
-use lib.Seq.{slice, take-all}
+use lib.Seq.{slice}
 use borrow.Author.Tests.{ltb-true, ltb-false}
 use Rattle.station.specs.Lists.{some}
 use Rattle.station.proofs.Places.{slice-next, slice-past}
@@ -37,15 +37,3 @@ module _ {A : Type 0} (f : A → Bool) (n : ℕ) (l : List A) where
 
   pub some-end : (i : ℕ) (hit : Bool) → length l ≤ i → (hit || some f (slice i n l)) ≡ hit
   some-end i hit h = rw (slice-past i n l (omega arith), or-false hit)
-
--- what lies past the list is not there
-pub take-min : {A : Type 0} (n k : ℕ) (l : List A) → length l ≤ k → take (min n k) l ≡ take n l
-take-min n k l h = go (ltb n k) refl
-  where
-    go : (b : Bool) → ltb n k ≡ b → take (min n k) l ≡ take n l
-    go true e =
-        let m : min n k ≡ n = omega (arith, ltb-true n k e) in
-        rw m
-    go false e =
-        let m : min n k ≡ k = omega (arith, ltb-false n k e) in
-        rw m (take-all k l h ∙ sym (take-all n l (omega (arith, ltb-false n k e))))

@@ -8,8 +8,6 @@ use station::held::Allocs;
 ghost use mathlib.Core.Path.{_≡_};
 ghost use mathlib.Core.Bool.{_||_, _&&_};
 ghost use lib.ListN.{take};
-ghost use Prim.Native.Nat.{min};
-ghost use Rattle.station.specs.Limits.{addedAllocs};
 ghost use Rattle.framing.specs.Reads.{foundAllocation};
 ghost use Rattle.station.specs.Lists.{some};
 ghost use Rattle.ids.specs.Ids.{sameAlloc};
@@ -19,9 +17,6 @@ ghost use Rattle.entries.specs.Standings.{isPlanned, startUnfit, noRoom,
 const LAST_START: u16 = 9719;
 
 const CONTINUING: u16 = 65535;
-
-// Places for added Alloc-IDs.
-const PLACES: u16 = 16;
 
 // What decides which grants are a station's, as its frame arrives.
 pub struct Own {
@@ -102,26 +97,15 @@ fn or_is(hit: bool, within: bool, id: AllocId, other: AllocId) -> bool
     false
 }
 
-// The number of places that are looked at, as narrow as an Alloc-ID, so that one comparison of vectors does for all.
-fn narrow(n: usize) -> u16
-    ensures { λ r. ⌜ r ≡ min n addedAllocs ⌝ }
-{
-    if n < station::held::ADDED_ALLOCS {
-        return n as u16;
-    }
-    PLACES
-}
-
 // Whether the Alloc-ID is among the first n. All places are compared, which is faster than to stop early.
 fn among(ids: [AllocId; 16], n: usize, id: AllocId) -> bool
     ensures { λ r. ⌜ r ≡ some (sameAlloc id) (take n ids) ⌝ }
 {
-    let few = narrow(n);
     let mut hit = false;
-    let mut i: u16 = 0;
-    while i < PLACES {
-        let other = ids[i as usize];
-        hit = or_is(hit, i < few, id, other);
+    let mut i: usize = 0;
+    while i < station::held::ADDED_ALLOCS {
+        let other = ids[i];
+        hit = or_is(hit, i < n, id, other);
         i += 1;
     }
     hit
@@ -182,7 +166,7 @@ impl Own {
         }
     }
 
-    fn owns(self, a: Allocation) -> bool
+    pub fn owns(self, a: Allocation) -> bool
         ensures { λ r. ⌜ r ≡ ours self a ⌝ }
     {
         let activation = self.activation;
@@ -218,7 +202,7 @@ impl Own {
         Standing::Apart(Verdict::Foreign)
     }
 
-    fn standing(self, read: AllocationRead) -> Standing
+    pub fn standing(self, read: AllocationRead) -> Standing
         ensures { λ r. ⌜ r ≡ standing self (foundAllocation read) ⌝ }
     {
         if self.is_silent() {

@@ -1,32 +1,26 @@
 -- `entries::among` meets its contract.
 -- Assumes nothing.
-use mathlib.Core.Path.{_≡_, _∙_, refl, sym, ap}
+use mathlib.Core.Path.{_≡_, _∙_, refl, sym}
 use mathlib.Core.Bool.{_||_, false}
 use native.Mathlib.Omega.{arith}
-use Prim.Native.Nat.{ℕ, _-_, _+_}
+use Prim.Native.Nat.{_-_, _+_}
 use lib.ListN.{length, take}
 use lib.Seq.{slice}
 use Rattle.ids.specs.Ids.{sameAlloc}
 use Rattle.station.specs.Lists.{some}
-use Rattle.entries.proofs.Lookup.{some-next, some-end, take-min}
+use Rattle.entries.proofs.Lookup.{some-next, some-end}
 use borrow.Author.Needs.{needs}
 use Rattle.entries.proofs.among.Statement.{statement}
 use Rattle.entries.proofs.among.Tie as tie
 
 abbrev Inv-loop : tie.InvT-loop
-Inv-loop n id ids few hit₀ i₀ hit i = (length ids ≡ 16) × ((hit || some (sameAlloc id) (slice i few ids)) ≡ some (sameAlloc id) (take few ids))
+Inv-loop n id ids hit₀ i₀ hit i = (length ids ≡ 16) × ((hit || some (sameAlloc id) (slice i n ids)) ≡ some (sameAlloc id) (take n ids))
 
 abbrev μ-loop : tie.MeasureT-loop
-μ-loop n id ids few hit₀ i₀ hit i = 16 - i
-
-narrow-requires : tie.Need-narrow-requires Inv-loop μ-loop
-narrow-requires c κs = search needs
+μ-loop n id ids hit₀ i₀ hit i = 16 - i
 
 loop-holds : tie.Need-loop-holds Inv-loop μ-loop
 loop-holds c = (search needs, refl)
-
-cast-other : tie.Need-cast-other Inv-loop μ-loop
-cast-other c = search needs
 
 mul-other : tie.Need-mul-other Inv-loop μ-loop
 mul-other c = search needs
@@ -44,13 +38,10 @@ loop-less : tie.Need-loop-less Inv-loop μ-loop
 loop-less c = search needs
 
 loop-again : tie.Need-loop-again Inv-loop μ-loop
-loop-again c = (c .before .before .before .loop .inv .0, some-next (sameAlloc (c .before .before .before .before .before .args .id)) (c .before .before .before .before .narrow .result) (c .before .before .before .before .before .args .t1) (c .before .before .before .loop .i) _ _ (c .before .before .before .loop .hit) _ (omega arith) refl (c .or-is .ensures) ∙ c .before .before .before .loop .inv .1)
+loop-again c = (c .before .before .before .loop .inv .0, some-next (sameAlloc (c .before .before .before .before .args .id)) (c .before .before .before .before .args .n) (c .before .before .before .before .args .t1) (c .before .before .before .loop .i) _ _ (c .before .before .before .loop .hit) _ (omega arith) refl (c .or-is .ensures) ∙ c .before .before .before .loop .inv .1)
 
 returns : tie.Need-returns Inv-loop μ-loop
-returns c =
-    sym (some-end (sameAlloc (c .before .before .before .args .id)) (c .before .before .narrow .result) (c .before .before .before .args .t1) (c .before .loop .i) (c .before .loop .hit) (omega arith)) ∙ c .before .loop .inv .1
-    ∙ ap (λ (k : ℕ). some (sameAlloc (c .before .before .before .args .id)) (take k (c .before .before .before .args .t1))) (c .before .before .narrow .ensures)
-    ∙ ap (some (sameAlloc (c .before .before .before .args .id))) (take-min (c .before .before .before .args .n) 16 (c .before .before .before .args .t1) (omega arith))
+returns c = sym (some-end (sameAlloc (c .before .before .args .id)) (c .before .before .args .n) (c .before .before .args .t1) (c .before .loop .i) (c .before .loop .hit) (omega arith)) ∙ c .before .loop .inv .1
 
 pub among-spec : {M : Type 1} → statement M
 among-spec =
@@ -58,9 +49,7 @@ among-spec =
     (tie.spec
     Inv-loop
     μ-loop
-    narrow-requires
     loop-holds
-    cast-other
     mul-other
     array-copy-out-other
     or-is-requires
