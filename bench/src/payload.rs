@@ -1,6 +1,6 @@
 //! The payload walk on full frames: what a frame carries is received by both, and the deliveries are the same.
 
-use crate::compare;
+use crate::{compare, Rng};
 use std::hint::black_box;
 use xgpon_peer::limits::{FRAME_MAX, MEMORY_BYTES, PLAN_NUMBERS, REPLY_BYTES};
 use xgpon_peer::{frame, layout, Activation, Lent, OnuId, PortId, Station, XgemHeader};
@@ -39,6 +39,44 @@ fn full(size: usize, fragments: usize, flips: bool) -> Vec<u8> {
         count += 1;
     }
     f.resize(f.len() / 4 * 4, 0);
+    f
+}
+
+/// A payload of any frames: ours, foreign, idle, empty, unfinished, too long, damaged, or cut off.
+fn any(rng: &mut Rng) -> Vec<u8> {
+    let mut f = vec![0; 4];
+    for _ in 0..rng.next() % 40 {
+        let size = match rng.next() % 8 {
+            0 => 0,
+            1 => rng.next() % 9,
+            2 => 1_000 + rng.next() % 1_200,
+            _ => rng.next() % 300,
+        };
+        let header = XgemHeader {
+            pli: size as u16,
+            port: PortId(match rng.next() % 8 {
+                0 => 5,
+                1 => 65_535,
+                2 => 3_001,
+                3 => 0,
+                _ => 3_000 + 11 * (rng.next() % 3) as u16,
+            }),
+            last: rng.next() % 3 == 0,
+            ..Default::default()
+        };
+        let mut word = header.word().unwrap();
+        match rng.next() % 64 {
+            0..=15 => word ^= 1 << (rng.next() % 64),
+            16 => word ^= rng.next() & rng.next() & rng.next(),
+            _ => {}
+        }
+        f.extend_from_slice(&word.to_be_bytes());
+        for _ in 0..layout::payload_bytes(size as u16) {
+            f.push(rng.next() as u8);
+        }
+    }
+    let end = if rng.next() % 4 == 0 { f.len() - rng.next() as usize % f.len().min(40) } else { f.len() };
+    f.truncate(end.max(4) / 4 * 4);
     f
 }
 
@@ -89,7 +127,23 @@ impl Both {
     }
 }
 
+/// The deliveries and the port memory that both leave.
+fn same(name: &str, f: &[u8]) -> usize {
+    let mut b = Both::new();
+    let bytes = b.peer(f);
+    assert_eq!(bytes, b.ours(f), "{name}");
+    assert_eq!(b.deliveries[0], b.deliveries[1], "{name}");
+    assert_eq!(b.memory[0], b.memory[1], "{name}");
+    bytes
+}
+
 pub fn run(measure: bool) {
+    let mut rng = Rng(0xD1B5_4A32_D192_ED03);
+    let mut bytes = 0;
+    for _ in 0..2000 {
+        bytes += same("any frames", &any(&mut rng));
+    }
+    assert!(bytes > 0);
     for (name, size, fragments, flips) in [
         ("1,500-byte SDUs", 1500, 1, false),
         ("64-byte SDUs", 64, 1, false),
@@ -98,12 +152,7 @@ pub fn run(measure: bool) {
         ("1,500 bytes in two fragments", 750, 2, false),
     ] {
         let f = full(size, fragments, flips);
-        let mut b = Both::new();
-        let bytes = b.peer(&f);
-        assert_eq!(bytes, b.ours(&f), "{name}");
-        assert!(bytes > 0);
-        assert_eq!(b.deliveries[0], b.deliveries[1], "{name}");
-        assert_eq!(b.memory[0], b.memory[1], "{name}");
+        assert!(same(name, &f) > 0);
         if measure {
             let (mut p, mut o) = (Both::new(), Both::new());
             compare(
