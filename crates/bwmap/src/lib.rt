@@ -19,7 +19,7 @@ ghost use Rattle.bwmap.specs.Plan.{MapLeaves};
 use series::Next;
 
 // Numbers that a plan must have room for.
-const PLAN_NUMBERS: usize = 256;
+pub const PLAN_NUMBERS: usize = 256;
 
 // Words of an upstream frame.
 const UPSTREAM_WORDS: usize = 9720;

@@ -10,5 +10,6 @@ pub use alone::StretchPlace;
 pub use alone::stretch;
 pub use alone::stretch_place;
 pub use walk::Delineation;
+pub use walk::MEMORY_BYTES;
 pub use walk::Received;
 pub use walk::receive;

@@ -1,0 +1,22 @@
+use borrow.Author.Needs.{needs}
+use Rattle.engine.proofs.alone.stretch.Statement.{statement}
+use Rattle.engine.proofs.alone.stretch.Tie as tie
+use Rattle.engine.proofs.alone.stretch.Reads as reads
+use Rattle.engine.proofs.alone.stretch.Lts as lts
+use Rattle.engine.proofs.alone.stretch_place.Reads as stretch-place-reads
+use Rattle.payload.proofs.stretch.Reads as stretch-reads
+
+-- src/alone.rt:94:9
+stretch-place-requires : tie.Need-stretch-place-requires
+stretch-place-requires c κs = search needs
+
+-- src/alone.rt:95:5
+stretch-requires : tie.Need-stretch-requires
+stretch-requires c κs = search needs
+
+-- src/alone.rt:91:1
+returns : tie.Need-returns
+returns c = ?
+
+pub stretch-spec : {M : Type 1} → statement M
+stretch-spec = tie.close (tie.spec stretch-place-requires stretch-requires returns)

@@ -1,0 +1,111 @@
+use borrow.Author.Needs.{needs}
+use Rattle.engine.proofs.alone.stretch_place.Statement.{statement}
+use Rattle.engine.proofs.alone.stretch_place.Tie as tie
+use Rattle.engine.proofs.alone.stretch_place.Reads as reads
+use Rattle.engine.proofs.alone.stretch_place.Lts as lts
+use Rattle.engine.proofs.alone.empty.Reads as empty-reads
+use Rattle.engine.proofs.alone.place_in.Reads as place-in-reads
+use Rattle.engine.proofs.lengths.length_fits.Reads as length-fits-reads
+use Rattle.engine.proofs.partitions.header_end.Reads as header-end-reads
+use Rattle.framing.proofs.hlend.read_hlend.Reads as read-hlend-reads
+use Rattle.ranges.proofs.in_range.Reads as in-range-reads
+
+-- src/alone.rt:72:9
+in-range-requires : tie.Need-in-range-requires
+in-range-requires c κs = search needs
+
+-- src/alone.rt:73:9
+empty-requires : tie.Need-empty-requires
+empty-requires c κs = search needs
+
+-- src/alone.rt:73:9
+returns : tie.Need-returns
+returns c = ?
+
+-- src/alone.rt:75:9
+length-fits-requires : tie.Need-length-fits-requires
+length-fits-requires c κs = search needs
+
+-- src/alone.rt:76:9
+empty-requires-2 : tie.Need-empty-requires-2
+empty-requires-2 c κs = search needs
+
+-- src/alone.rt:76:9
+returns-2 : tie.Need-returns-2
+returns-2 c = ?
+
+-- src/alone.rt:78:11
+read-hlend-requires : tie.Need-read-hlend-requires
+read-hlend-requires c κs = search needs
+
+-- src/alone.rt:79:27
+enum-known-h : tie.Need-enum-known-h
+enum-known-h c = search needs
+
+-- src/alone.rt:80:30
+header-end-requires : tie.Need-header-end-requires
+header-end-requires c κs = search needs
+
+-- src/alone.rt:81:17
+empty-requires-3 : tie.Need-empty-requires-3
+empty-requires-3 c κs = search needs
+
+-- src/alone.rt:81:17
+returns-3 : tie.Need-returns-3
+returns-3 c = ?
+
+-- src/alone.rt:83:13
+place-in-requires : tie.Need-place-in-requires
+place-in-requires c κs = search needs
+
+-- src/alone.rt:85:40
+enum-told : tie.Need-enum-told
+enum-told c = search needs
+
+-- src/alone.rt:85:34
+empty-requires-4 : tie.Need-empty-requires-4
+empty-requires-4 c κs = search needs
+
+-- src/alone.rt:86:35
+enum-told-2 : tie.Need-enum-told-2
+enum-told-2 c = search needs
+
+-- src/alone.rt:86:29
+empty-requires-5 : tie.Need-empty-requires-5
+empty-requires-5 c κs = search needs
+
+-- src/alone.rt:69:1
+returns-4 : tie.Need-returns-4
+returns-4 c = ?
+
+-- src/alone.rt:69:1
+returns-5 : tie.Need-returns-5
+returns-5 c = ?
+
+-- src/alone.rt:69:1
+returns-6 : tie.Need-returns-6
+returns-6 c = ?
+
+pub stretch-place-spec : {M : Type 1} → statement M
+stretch-place-spec =
+    tie.close
+    (tie.spec
+    in-range-requires
+    empty-requires
+    returns
+    length-fits-requires
+    empty-requires-2
+    returns-2
+    read-hlend-requires
+    enum-known-h
+    header-end-requires
+    empty-requires-3
+    returns-3
+    place-in-requires
+    enum-told
+    empty-requires-4
+    enum-told-2
+    empty-requires-5
+    returns-4
+    returns-5
+    returns-6)

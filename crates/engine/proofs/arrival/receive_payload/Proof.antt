@@ -1,0 +1,59 @@
+use mathlib.Core.Path.{_≡_, _∙_, sym}
+use borrow.Author.Tests.{not-true, not-false}
+use denote.Ref.{now}
+use lib.ListN.{length, length-map}
+use Rattle.station.specs.Limits.{slots}
+use Rattle.engine.proofs.Laws.{payload-received}
+use borrow.Author.Needs.{needs}
+use Rattle.engine.proofs.arrival.receive_payload.Statement.{statement}
+use Rattle.engine.proofs.arrival.receive_payload.Tie as tie
+use Rattle.engine.proofs.arrival.receive_payload.Reads as reads
+use Rattle.engine.proofs.arrival.receive_payload.Lts as lts
+use Rattle.engine.proofs.arrival.is_operating.Reads as is-operating-reads
+use Rattle.ids.proofs.OnuId.management_port.Reads as management-port-reads
+use Rattle.payload.proofs.receive.Reads as receive-reads
+
+long : (c : tie.Start) → length (c .args .s .ports .lengths) ≡ slots
+long c = search needs
+
+-- src/arrival.rt:131:9
+is-operating-requires : tie.Need-is-operating-requires
+is-operating-requires c κs = search needs
+
+-- src/arrival.rt:132:9
+returns : tie.Need-returns
+returns c = rw (sym (c .before .is-operating .ensures) ∙ not-true _ (c .if1 .taken))
+
+-- src/arrival.rt:140:29
+management-port-requires : tie.Need-management-port-requires
+management-port-requires c κs = search needs
+
+-- src/arrival.rt:140:5
+receive-requires : tie.Need-receive-requires
+receive-requires c κs = search needs
+
+-- src/arrival.rt:119:1
+same-length : tie.Need-same-length
+same-length c = search needs
+
+-- src/arrival.rt:119:1
+same-length-2 : tie.Need-same-length-2
+same-length-2 c = search needs
+
+-- src/arrival.rt:119:1
+returns-2 : tie.Need-returns-2
+returns-2 c =
+    let a = c .before .before .before .before .before .before .before .before .before .before .before .before .before .before .before .before .args in
+    payload-received (a .s) (a .place) (now (a .payload)) (now (a .memory)) (now (a .deliveries)) (c .before .before .before .before .before .before .before .management-port .result) _ (long (c .before .before .before .before .before .before .before .before .before .before .before .before .before .before .before .before)) (c .before .before .before .before .before .before .before .before .before .before .before .before .before .before .before .before .pre .0) (c .before .before .before .before .before .before .before .before .before .before .before .before .before .before .before .before .pre .1) (c .before .before .before .before .before .before .before .before .before .before .before .before .before .before .before .before .pre .2) (sym (c .before .before .before .before .before .before .before .before .before .before .before .is-operating .ensures) ∙ not-false _ (c .before .before .before .before .before .before .before .before .before .before .if1 .left)) (c .before .before .before .before .before .before .before .management-port .ensures) (c .before .before .before .before .receive .ensures)
+
+pub receive-payload-spec : {M : Type 1} → statement M
+receive-payload-spec =
+    tie.close
+    (tie.spec
+    is-operating-requires
+    returns
+    management-port-requires
+    receive-requires
+    same-length
+    same-length-2
+    returns-2)

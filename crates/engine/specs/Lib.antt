@@ -1,0 +1,6 @@
+pub mod Limits
+pub mod Lengths
+pub mod Partitions
+pub mod Frame
+pub mod Times
+pub mod Stretch

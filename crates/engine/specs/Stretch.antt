@@ -1,0 +1,64 @@
+-- "An unfragmented SDU can also be had as its own stretch of the lent frame, padding cut off. That call takes the state, the
+-- frame and a delivery's number from 0; else, and after 1, 2, 4 or 5, the stretch is empty."
+-- Assumes nothing.
+use Prim.Native.Nat.{ℕ, _+_}
+use mathlib.Core.Path.{_≡_}
+use mathlib.Core.Bool.{Bool, not, cond}
+use mathlib.Core.List.{List}
+use lib.Dec.{eqb, leb}
+use lib.ListN.{length, take, drop}
+use Rattle.ids.specs.Ids.{managementPort}
+use Rattle.framing.specs.declared.hlend.Hlend.{Hlend}
+use Rattle.framing.specs.Reads.{Found, fields, unreadable, short, readHlend}
+use Rattle.station.specs.declared.Station.{Station}
+use Rattle.station.specs.declared.answers.Answer.{Answer}
+use Rattle.station.specs.declared.answers.Answer.the-variants.{Done, StateOutOfRange, FrameLengthUnfit, HlendUnreadable, HeaderTooLong, DelineationLost}
+use Rattle.ranges.specs.Ranges.{inRange}
+use Rattle.payload.specs.declared.alone.StretchPlace as found
+use Rattle.payload.specs.Stretch.{stretchOf}
+use Rattle.engine.specs.declared.alone.StretchPlace.{StretchPlace}
+use Rattle.engine.specs.Lengths.{lengthFits}
+use Rattle.engine.specs.Frame.{isOperating}
+use Rattle.engine.specs.Partitions.{headerEnd, payloadOf}
+
+abbrev pub empty : Answer → StretchPlace
+empty answer = record { answer = answer; at = 0; bytes = 0 }
+
+-- 6 "wherever delineation is lost, also behind" the delivery
+abbrev pub answerIf : Bool → Answer
+answerIf lost = cond lost DelineationLost Done
+
+-- a stretch of the payload, which begins so many octets into the frame; the empty one stands at 0
+abbrev pub inFrame : ℕ → found.StretchPlace → StretchPlace
+inFrame begins p =
+    cond (eqb (p .stretch .bytes) 0) (empty (answerIf (p .lost)))
+    (record { answer = answerIf (p .lost); at = begins + p .stretch .at; bytes = p .stretch .bytes })
+
+-- "Payload, in O5 only"
+unfoldable pub placeIn : Station → Hlend → List ℕ → ℕ → StretchPlace
+placeIn s h f k =
+    cond (isOperating (s .activation))
+    (inFrame (headerEnd h) (stretchOf (managementPort (s .link .onu)) (s .ports) (payloadOf h f) k))
+    (empty Done)
+
+abbrev pub placeBy : Found Hlend → Station → List ℕ → ℕ → StretchPlace
+placeBy unreadable s f k = empty HlendUnreadable
+placeBy short s f k = empty HlendUnreadable
+placeBy (fields h) s f k = cond (leb (headerEnd h) (length f)) (placeIn s h f k) (empty HeaderTooLong)
+
+-- the frame call's answers, without 3
+unfoldable pub stretchPlace : Station → List ℕ → ℕ → StretchPlace
+stretchPlace s f k =
+    cond (not (inRange s)) (empty StateOutOfRange)
+    (cond (not (lengthFits (length f))) (empty FrameLengthUnfit)
+    (placeBy (readHlend f) s f k))
+
+abbrev pub PlaceIs : Station → List ℕ → ℕ → StretchPlace → Type 0
+PlaceIs s f k r = r ≡ stretchPlace s f k
+
+-- exactly that part of the frame
+abbrev pub cut : StretchPlace → List ℕ → List ℕ
+cut p f = take (p .bytes) (drop (p .at) f)
+
+abbrev pub StretchIs : Station → List ℕ → ℕ → List ℕ → Type 0
+StretchIs s f k r = r ≡ cut (stretchPlace s f k) f

@@ -1,0 +1,102 @@
+// An unfragmented SDU as its own stretch of the caller's frame.
+ghost use mathlib.Core.Path.{_≡_};
+ghost use mathlib.Core.Bool.{true};
+ghost use Prim.Native.Nat.{_≤_};
+ghost use lib.ListN.{length};
+ghost use Rattle.engine.specs.Partitions.{headerEnd};
+ghost use Rattle.engine.specs.Stretch.{empty, answerIf, placeIn, PlaceIs, StretchIs};
+use framing::hlend::Hlend;
+use framing::hlend::HlendRead;
+use payload::Extent;
+use station::Station;
+use station::answers::Answer;
+use super::arrival;
+use super::lengths;
+use super::partitions;
+
+// Where in the frame the stretch stands, and its length; the frame call's answer, without 3.
+pub struct StretchPlace {
+    pub answer: Answer,
+    pub at: usize,
+    pub bytes: usize,
+}
+
+fn empty(answer: Answer) -> StretchPlace
+    ensures { λ r. ⌜ r ≡ empty answer ⌝ }
+{
+    StretchPlace {
+        answer: answer,
+        at: 0,
+        bytes: 0,
+    }
+}
+
+fn answer_if(lost: bool) -> Answer
+    ensures { λ r. ⌜ r ≡ answerIf lost ⌝ }
+{
+    if lost {
+        return Answer::DelineationLost;
+    }
+    Answer::Done
+}
+
+fn place_in(s: Station, h: Hlend, frame: &[u8], k: usize) -> StretchPlace
+    requires { ⌜ headerEnd h ≤ length (now frame) ⌝ }
+    ensures { λ r. ⌜ r ≡ placeIn s h (now (frame .entry)) k ⌝ }
+{
+    let arrived = s.activation;
+    if !arrival::is_operating(arrived) {
+        return empty(Answer::Done);
+    }
+    let end = partitions::header_end(h);
+    let link = s.link;
+    let onu = link.onu;
+    let ports = s.ports;
+    let p = payload::stretch_place(ports, onu.management_port(), &frame[end..], k);
+    let t = p.stretch;
+    let answer = answer_if(p.lost);
+    if t.bytes == 0 {
+        return empty(answer);
+    }
+    StretchPlace {
+        answer: answer,
+        at: end + t.at,
+        bytes: t.bytes,
+    }
+}
+
+// The place of delivery k, counted from 0, in the frame. The state is the one in which the frame arrives.
+pub fn stretch_place(s: Station, frame: &[u8], k: usize) -> StretchPlace
+    ensures { λ r. ⌜ PlaceIs s (now (frame .entry)) k r ⌝ }
+{
+    if !ranges::in_range(s) {
+        return empty(Answer::StateOutOfRange);
+    }
+    if !lengths::length_fits(frame.len()) {
+        return empty(Answer::FrameLengthUnfit);
+    }
+    match framing::hlend::read_hlend(frame) {
+        HlendRead::Fields(h) => {
+            if frame.len() < partitions::header_end(h) {
+                return empty(Answer::HeaderTooLong);
+            }
+            place_in(s, h, frame, k)
+        }
+        HlendRead::Unreadable => empty(Answer::HlendUnreadable),
+        HlendRead::Short => empty(Answer::HlendUnreadable),
+    }
+}
+
+// The stretch itself: exactly that part of the frame.
+pub fn stretch(s: Station, frame: &[u8], k: usize) -> &[u8]
+    ensures { λ r. ⌜ StretchIs s (now (frame .entry)) k (now r) ⌝ }
+{
+    let p = stretch_place(s, frame, k);
+    payload::stretch(
+        frame,
+        Extent {
+            at: p.at,
+            bytes: p.bytes,
+        },
+    )
+}
