@@ -135,7 +135,7 @@ partials-within s long h =
     let x4 = both (partialsFit (s .ports .ids) (s .ports .lengths) (s .ports .waiting)) _ (x3 .1) in
     within-all (s .ports .lengths)
     (λ i q. slot-most (s .ports .ids) (s .ports .lengths) (s .ports .waiting) i
-      (slot-of (s .ports .ids) (s .ports .lengths) (s .ports .waiting) (x4 .0) i (omega (arith, long))))
+    (slot-of (s .ports .ids) (s .ports .lengths) (s .ports .waiting) (x4 .0) i (omega (arith, long))))
 
 pub payload-fits
     : (s : Station) (memory deliveries payload : List ℕ) → length (s .ports .lengths) ≡ slots → inRange s ≡ true → memoryBytes ≤ length memory
@@ -188,9 +188,9 @@ module _ (s : Station) (h : Hlend) (f : List ℕ) (delay : ℕ) (lent : Lent) wh
       let own = ownOf s in
       let m = mapOf h f in
       let n : min (p .messages) (length (lent .replies) / messageOctets) ≡ messages (plannedOf own m (s .carried))
-          = ap (λ (x : Plan). min (x .messages) (length (lent .replies) / messageOctets)) eP ∙ all-replied own m (s .carried) (lent .replies) (room .replies) in
+      = ap (λ (x : Plan). min (x .messages) (length (lent .replies) / messageOctets)) eP ∙ all-replied own m (s .carried) (lent .replies) (room .replies) in
       let eR' : record { station = sent; octets = replies } ≡ repliesFrom s delay (lent .replies) 0 (messages (plannedOf own m (s .carried)))
-          = eR ∙ ap (repliesFrom s delay (lent .replies) 0) n in
+      = eR ∙ ap (repliesFrom s delay (lent .replies) 0) n in
       rw (
         eS,
         eA,

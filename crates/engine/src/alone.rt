@@ -5,14 +5,14 @@ ghost use Prim.Native.Nat.{_≤_};
 ghost use lib.ListN.{length};
 ghost use Rattle.engine.specs.Partitions.{headerEnd};
 ghost use Rattle.engine.specs.Stretch.{empty, answerIf, placeIn, PlaceIs, StretchIs};
+use super::arrival;
+use super::lengths;
+use super::partitions;
 use framing::hlend::Hlend;
 use framing::hlend::HlendRead;
 use payload::Extent;
 use station::Station;
 use station::answers::Answer;
-use super::arrival;
-use super::lengths;
-use super::partitions;
 
 // Where in the frame the stretch stands, and its length; the frame call's answer, without 3.
 pub struct StretchPlace {

@@ -11,6 +11,8 @@ ghost use Rattle.payload.specs.Walk.{memoryBytes};
 ghost use Rattle.engine.specs.Lengths.{lengthFits, buffersFit};
 ghost use Rattle.engine.specs.Partitions.{headerEnd};
 ghost use Rattle.engine.specs.Frame.{isOperating, isRanging, without, answerTo, planOf, ownOf, walkedFrom, handled, FrameLeaves};
+use super::lengths;
+use super::partitions;
 use bwmap::Plan;
 use entries::Own;
 use framing::hlend::Hlend;
@@ -20,8 +22,6 @@ use payload::Received;
 use station::Activation;
 use station::Station;
 use station::answers::Answer;
-use super::lengths;
-use super::partitions;
 
 pub(crate) fn is_operating(a: Activation) -> bool
     ensures { λ r. ⌜ r ≡ isOperating a ⌝ }
@@ -81,7 +81,6 @@ fn answer_to(delineation: Delineation) -> Answer
     }
 }
 
-
 fn plan_of(answer: bwmap::Answer) -> Plan
     ensures { λ r. ⌜ r ≡ planOf answer ⌝ }
 {
@@ -137,7 +136,14 @@ fn receive_payload(
     }
     let link = s.link;
     let onu = link.onu;
-    payload::receive(ports, onu.management_port(), memory, deliveries, place, payload)
+    payload::receive(
+        ports,
+        onu.management_port(),
+        memory,
+        deliveries,
+        place,
+        payload,
+    )
 }
 
 // The header was read and lies within the frame: (a) plan, replies and deliveries, (b) the messages, (c) the frame's end.

@@ -1,10 +1,14 @@
 use mathlib.Core.Path.{_≡_, _∙_, sym, ap}
+use Prim.Native.Nat.{_<_, _^_}
 use native.Mathlib.Omega.{arith}
-use borrow.Author.Tests.{not-true, not-false, lt-leb, le-leb, eq-eqb, ne-eqb}
+use borrow.Author.Tests.{not-true, not-false, eq-eqb, ne-eqb}
 use denote.Ref.{now}
 use lib.ListN.{length}
+use Rattle.station.specs.declared.answers.Answer.{Answer}
 use Rattle.engine.specs.Partitions.{headerEnd}
-use Rattle.engine.specs.Stretch.{placeIn}
+use Rattle.engine.specs.Stretch.{empty, placeIn, inFrame}
+use Rattle.engine.proofs.Laws.{payload-part}
+use Rattle.engine.proofs.Stretches.{placed, placed-inside}
 use borrow.Author.Needs.{needs}
 use Rattle.engine.proofs.alone.place_in.Statement.{statement}
 use Rattle.engine.proofs.alone.place_in.Tie as tie
@@ -16,6 +20,9 @@ use Rattle.engine.proofs.arrival.is_operating.Reads as is-operating-rea
 use Rattle.engine.proofs.partitions.header_end.Reads as header-end-reads
 use Rattle.ids.proofs.OnuId.management_port.Reads as management-port-reads
 use Rattle.payload.proofs.stretch_place.Reads as stretch-place-reads
+
+short : (c : tie.Start) → length (now (c .args .frame)) < 2 ^ 64
+short c = omega arith
 
 -- src/alone.rt:48:9
 is-operating-requires : tie.Need-is-operating-requires
@@ -64,15 +71,30 @@ empty-requires-2 c κs = search needs
 
 -- src/alone.rt:59:9
 returns-2 : tie.Need-returns-2
-returns-2 c = ?
+returns-2 c =
+    let a = c .before .before .before .before .before .before .before .before .before .before .before .before .before .before .before .args in
+    let f = now (a .frame) in
+    let e = payload-part (a .h) f (c .before .before .before .before .before .before .before .before .before .before .before .header-end .result) (c .before .before .before .before .before .before .before .before .before .before .before .header-end .ensures) in
+    let law = placed (a .s) (a .h) f (a .k) (c .before .before .before .before .before .before .before .management-port .result) _ (c .before .before .before .before .before .stretch-place .result) (sym (c .before .before .before .before .before .before .before .before .before .before .before .before .before .is-operating .ensures) ∙ not-false _ (c .before .before .before .before .before .before .before .before .before .before .before .before .if1 .left)) (c .before .before .before .before .before .before .before .management-port .ensures) e (c .before .before .before .before .before .stretch-place .ensures) in
+    c .empty2 .ensures ∙ rw (c .before .before .before .answer-if .ensures) (sym (law ∙ rw (eq-eqb (c .before .before .before .before .before .stretch-place .result .stretch .bytes) 0 (c .before .if2 .taken))))
 
 -- src/alone.rt:63:13
 add-t18 : tie.Need-add-t18
-add-t18 c = ?
+add-t18 c =
+    let a = c .before .before .before .before .before .before .before .before .before .before .before .before .before .before .before .args in
+    let f = now (a .frame) in
+    let e = payload-part (a .h) f (c .before .before .before .before .before .before .before .before .before .before .before .header-end .result) (c .before .before .before .before .before .before .before .before .before .before .before .header-end .ensures) in
+    let i = placed-inside (a .s) (a .h) f (a .k) (c .before .before .before .before .before .before .before .management-port .result) _ (c .before .before .before .before .before .stretch-place .result) e (c .before .before .before .before .before .before .before .before .before .before .before .before .before .before .before .pre) (c .before .before .before .before .before .stretch-place .ensures) in
+    omega (arith, i, c .before .before .before .before .before .before .before .before .before .before .before .header-end .ensures, short (c .before .before .before .before .before .before .before .before .before .before .before .before .before .before .before))
 
 -- src/alone.rt:43:1
 returns-3 : tie.Need-returns-3
-returns-3 c = ?
+returns-3 c =
+    let a = c .before .before .before .before .before .before .before .before .before .before .before .before .before .before .before .args in
+    let f = now (a .frame) in
+    let e = payload-part (a .h) f (c .before .before .before .before .before .before .before .before .before .before .before .header-end .result) (c .before .before .before .before .before .before .before .before .before .before .before .header-end .ensures) in
+    let law = placed (a .s) (a .h) f (a .k) (c .before .before .before .before .before .before .before .management-port .result) _ (c .before .before .before .before .before .stretch-place .result) (sym (c .before .before .before .before .before .before .before .before .before .before .before .before .before .is-operating .ensures) ∙ not-false _ (c .before .before .before .before .before .before .before .before .before .before .before .before .if1 .left)) (c .before .before .before .before .before .before .before .management-port .ensures) e (c .before .before .before .before .before .stretch-place .ensures) in
+    rw (c .before .before .before .answer-if .ensures, c .before .before .before .before .before .before .before .before .before .before .before .header-end .ensures) (sym (law ∙ rw (ne-eqb (c .before .before .before .before .before .stretch-place .result .stretch .bytes) 0 (c .before .if2 .left))))
 
 pub place-in-spec : {M : Type 1} → statement M
 place-in-spec =

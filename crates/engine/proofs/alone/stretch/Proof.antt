@@ -1,3 +1,8 @@
+use mathlib.Core.Path.{_≡_, _∙_, sym, ap}
+use denote.Ref.{now}
+use Rattle.engine.specs.Stretch.{cut, stretchPlace}
+use Rattle.engine.specs.declared.alone.StretchPlace.{StretchPlace}
+use Rattle.engine.proofs.Stretches.{cut-fully}
 use borrow.Author.Needs.{needs}
 use Rattle.engine.proofs.alone.stretch.Statement.{statement}
 use Rattle.engine.proofs.alone.stretch.Tie as tie
@@ -16,7 +21,9 @@ stretch-requires c κs = search needs
 
 -- src/alone.rt:91:1
 returns : tie.Need-returns
-returns c = ?
+returns c =
+    let a = c .before .before .before .args in
+    c .stretch .ensures ∙ cut-fully (a .s) (now (a .frame)) (a .k) (c .before .stretch-place .result) (c .before .stretch-place .ensures)
 
 pub stretch-spec : {M : Type 1} → statement M
 stretch-spec = tie.close (tie.spec stretch-place-requires stretch-requires returns)

@@ -1,3 +1,11 @@
+use mathlib.Core.Path.{_≡_, _∙_, sym, ap}
+use native.Mathlib.Omega.{arith}
+use borrow.Author.Tests.{not-true, not-false, lt-leb, le-leb}
+use denote.Ref.{now}
+use lib.ListN.{length}
+use Rattle.framing.specs.Reads.{foundHlend}
+use Rattle.engine.specs.Partitions.{headerEnd}
+use Rattle.engine.specs.Stretch.{stretchPlace}
 use borrow.Author.Needs.{needs}
 use Rattle.engine.proofs.alone.stretch_place.Statement.{statement}
 use Rattle.engine.proofs.alone.stretch_place.Tie as tie
@@ -20,7 +28,8 @@ empty-requires c κs = search needs
 
 -- src/alone.rt:73:9
 returns : tie.Need-returns
-returns c = ?
+unfolding stretchPlace
+returns c = rw (sym (c .before .before .in-range .ensures) ∙ not-true _ (c .before .if1 .taken)) (c .empty .ensures)
 
 -- src/alone.rt:75:9
 length-fits-requires : tie.Need-length-fits-requires
@@ -32,7 +41,8 @@ empty-requires-2 c κs = search needs
 
 -- src/alone.rt:76:9
 returns-2 : tie.Need-returns-2
-returns-2 c = ?
+unfolding stretchPlace
+returns-2 c = rw (sym (c .before .before .before .before .in-range .ensures) ∙ not-false _ (c .before .before .before .if1 .left), sym (c .before .before .length-fits .ensures) ∙ not-true _ (c .before .if2 .taken)) (c .empty2 .ensures)
 
 -- src/alone.rt:78:11
 read-hlend-requires : tie.Need-read-hlend-requires
@@ -52,7 +62,8 @@ empty-requires-3 c κs = search needs
 
 -- src/alone.rt:81:17
 returns-3 : tie.Need-returns-3
-returns-3 c = ?
+unfolding stretchPlace
+returns-3 c = rw (sym (c .before .before .before .before .before .before .before .before .before .before .in-range .ensures) ∙ not-false _ (c .before .before .before .before .before .before .before .before .before .if1 .left), sym (c .before .before .before .before .before .before .before .before .length-fits .ensures) ∙ not-false _ (c .before .before .before .before .before .before .before .if2 .left), sym (c .before .before .before .before .before .before .read-hlend .ensures) ∙ ap foundHlend (c .before .before .before .before .h .given .1), lt-leb (headerEnd (c .before .before .before .before .h .given .0 .0)) (length (now (c .before .before .before .before .before .before .before .before .before .before .before .before .args .frame))) (omega (arith, c .before .before .header-end .ensures, c .before .if3 .taken))) (c .empty3 .ensures)
 
 -- src/alone.rt:83:13
 place-in-requires : tie.Need-place-in-requires
@@ -76,15 +87,18 @@ empty-requires-5 c κs = search needs
 
 -- src/alone.rt:69:1
 returns-4 : tie.Need-returns-4
-returns-4 c = ?
+unfolding stretchPlace
+returns-4 c = rw (sym (c .before .before .before .before .before .before .before .before .before .before .in-range .ensures) ∙ not-false _ (c .before .before .before .before .before .before .before .before .before .if1 .left), sym (c .before .before .before .before .before .before .before .before .length-fits .ensures) ∙ not-false _ (c .before .before .before .before .before .before .before .if2 .left), sym (c .before .before .before .before .before .before .read-hlend .ensures) ∙ ap foundHlend (c .before .before .before .before .h .given .1), le-leb (headerEnd (c .before .before .before .before .h .given .0 .0)) (length (now (c .before .before .before .before .before .before .before .before .before .before .before .before .args .frame))) (omega (arith, c .before .before .header-end .ensures, c .before .if3 .left))) (c .place-in .ensures)
 
 -- src/alone.rt:69:1
 returns-5 : tie.Need-returns-5
-returns-5 c = ?
+unfolding stretchPlace
+returns-5 c = rw (sym (c .before .before .before .before .before .before .before .in-range .ensures) ∙ not-false _ (c .before .before .before .before .before .before .if1 .left), sym (c .before .before .before .before .before .length-fits .ensures) ∙ not-false _ (c .before .before .before .before .if2 .left), sym (c .before .before .before .read-hlend .ensures) ∙ ap foundHlend (c .before .enum-told .given .1)) (c .empty4 .ensures)
 
 -- src/alone.rt:69:1
 returns-6 : tie.Need-returns-6
-returns-6 c = ?
+unfolding stretchPlace
+returns-6 c = rw (sym (c .before .before .before .before .before .before .before .in-range .ensures) ∙ not-false _ (c .before .before .before .before .before .before .if1 .left), sym (c .before .before .before .before .before .length-fits .ensures) ∙ not-false _ (c .before .before .before .before .if2 .left), sym (c .before .before .before .read-hlend .ensures) ∙ ap foundHlend (c .before .enum-told2 .given .1)) (c .empty5 .ensures)
 
 pub stretch-place-spec : {M : Type 1} → statement M
 stretch-place-spec =

@@ -39,4 +39,3 @@ returns-6 c = rw (le-leb _ _ (c .before .before .before .before .if1 .left), le-
 
 pub enough-spec : {M : Type 1} → statement M
 enough-spec = tie.close (tie.spec returns returns-2 returns-3 returns-4 returns-5 returns-6)
-

@@ -1,0 +1,158 @@
+-- A stretch lies within the payload, so that it lies within the frame.
+-- Assumes nothing.
+use Prim.Native.Nat.{ℕ, zero, suc, _+_, _-_, _≤_}
+use native.Mathlib.Omega.{arith}
+use mathlib.Core.Path.{_≡_, _∙_, refl, sym, ap, subst}
+use mathlib.Core.Bool.{Bool, true, false, not, cond}
+use mathlib.Core.List.{List, [], _∷_, _++_}
+use lib.Dec.{eqb, leb}
+use lib.ListN.{length, getD, take, drop, length-take, length-drop}
+use lib.Seq.{drop-drop}
+use borrow.Author.Tests.{le-leb, leb-true}
+use Rattle.ids.specs.declared.PortId.{PortId}
+use Rattle.ids.specs.Ids.{managementPort}
+use Rattle.framing.specs.declared.hlend.Hlend.{Hlend}
+use Rattle.framing.specs.declared.xgem.XgemHeader.{XgemHeader}
+use Rattle.framing.specs.Layouts.{payloadSize}
+use Rattle.framing.proofs.Frames.{covers}
+use Rattle.station.specs.declared.Station.{Station}
+use Rattle.station.specs.declared.slots.Ports.{Ports}
+use Rattle.payload.specs.declared.fragments.Effect.{Effect}
+use Rattle.payload.specs.declared.fragments.Effect.the-variants.{Nothing, Discard, Deliver, Append}
+use Rattle.payload.specs.declared.frames.Next.{Next}
+use Rattle.payload.specs.declared.frames.Next.the-variants.{Done as NoMore, Lost, Frame}
+use Rattle.payload.specs.declared.alone.Extent.{Extent}
+use Rattle.payload.specs.declared.alone.StretchPlace as found
+use Rattle.payload.specs.Fragments.{effectOf, after}
+use Rattle.payload.specs.Frames.{Xgem, nextOf, parse}
+use Rattle.payload.specs.Stretch.{noExtent, aloneAt, stretches, stretchOf, cutOut}
+use Rattle.engine.specs.Partitions.{headerEnd, payloadOf}
+use Rattle.engine.specs.Frame.{isOperating}
+use Rattle.engine.specs.Lengths.{lengthFits}
+use Rattle.engine.specs.Stretch.{empty, answerIf, inFrame, placeIn, placeBy, stretchPlace, cut}
+use Rattle.engine.specs.declared.alone.StretchPlace.{StretchPlace}
+use Rattle.framing.specs.Reads.{Found, fields, unreadable, short, readHlend}
+use Rattle.station.specs.declared.answers.Answer.the-variants.{Done, StateOutOfRange, FrameLengthUnfit, HeaderTooLong}
+use Rattle.ranges.specs.Ranges.{inRange}
+use Rattle.payload.proofs.Walks.{frame-inside, parse-done, parse-lost, parse-next}
+
+abbrev AllInside : ℕ → List Xgem → Type 0
+AllInside n [] = Unit {0}
+AllInside n (x ∷ rest) = (x .place + 8 + length (x .body) ≤ n) × AllInside n rest
+
+inside : (payload : List ℕ) (n at : ℕ) → length payload - at ≤ n → AllInside (length payload) (parse at (drop at payload) .frames)
+inside payload zero at h = go (nextOf (drop at payload)) refl
+  where
+    go : (m : Next) → nextOf (drop at payload) ≡ m → AllInside (length payload) (parse at (drop at payload) .frames)
+    go NoMore e = rw (parse-done at (drop at payload) e) tt
+    go Lost e = rw (parse-lost at (drop at payload) e) tt
+    go (Frame x) e = absurd (omega (arith, frame-inside (drop at payload) x e, length-drop at payload))
+inside payload (suc n) at h = go (nextOf (drop at payload)) refl (λ b l. inside payload n b l)
+  where
+    go : (m : Next) → nextOf (drop at payload) ≡ m → ((b : ℕ) → length payload - b ≤ n → AllInside (length payload) (parse b (drop b payload) .frames))
+        → AllInside (length payload) (parse at (drop at payload) .frames)
+    go NoMore e ih = rw (parse-done at (drop at payload) e) tt
+    go Lost e ih = rw (parse-lost at (drop at payload) e) tt
+    go (Frame x) e ih =
+        let size : ℕ = payloadSize (x .pli) in
+        let i : 8 + size ≤ length (drop at payload) = frame-inside (drop at payload) x e in
+        let d : length (drop at payload) ≡ length payload - at = length-drop at payload in
+        let c : x .pli ≤ size = covers (x .pli) in
+        let m = length-take (x .pli) (drop 8 (drop at payload)) in
+        rw (parse-next at (drop at payload) x e) (
+          omega (arith, m),
+          subst (λ (l : List ℕ). AllInside (length payload) (parse (at + (8 + size)) l .frames)) (sym (drop-drop (8 + size) at payload)) (ih (at + (8 + size)) (omega arith)),
+        )
+
+abbrev In : ℕ → Extent → Type 0
+In n t = t .at + t .bytes ≤ n
+
+in-on
+    : (n : ℕ) (e : Effect) (at m : ℕ) (ts : List Extent) → at + m ≤ n → ((k : ℕ) → In n (getD ts k noExtent))
+    → (k : ℕ) → In n (getD (aloneAt e at m ++ ts) k noExtent)
+in-on n Nothing at m ts h ih k = ih k
+in-on n (Discard slot waits) at m ts h ih k = ih k
+in-on n (Deliver slot have) at m ts h ih zero = go (eqb have 0)
+  where
+    go : (b : Bool) → In n (cond b (record { at = at; bytes = m }) noExtent)
+    go true = h
+    go false = omega arith
+in-on n (Deliver slot have) at m ts h ih (suc k) = ih k
+in-on n (Append slot have) at m ts h ih k = ih k
+
+in-all : (n : ℕ) (own : PortId) (p : Ports) (frames : List Xgem) → AllInside n frames → (k : ℕ) → In n (getD (stretches own p frames) k noExtent)
+unfolding stretches
+in-all n own p [] c k = omega arith
+in-all n own p (x ∷ rest) c k =
+    in-on n (effectOf p own (x .port) (x .last) (length (x .body))) (x .place + 8) (length (x .body)) _ (c .0)
+    (in-all n own (after p (effectOf p own (x .port) (x .last) (length (x .body))) (length (x .body))) rest (c .1)) k
+
+-- the stretch of delivery k lies within the payload
+pub stretch-inside : (own : PortId) (p : Ports) (payload : List ℕ) (k : ℕ) → In (length payload) (stretchOf own p payload k .stretch)
+unfolding stretchOf
+stretch-inside own p payload k = in-all (length payload) own p (parse 0 payload .frames) (inside payload (length payload) 0 (omega arith)) k
+
+module _ (s : Station) (h : Hlend) (f : List ℕ) (k : ℕ) where
+  -- what the search in the payload finds, as a place in the frame
+  pub placed
+      : (own : PortId) (rest : List ℕ) (p : found.StretchPlace) → isOperating (s .activation) ≡ true → own ≡ managementPort (s .link .onu)
+      → rest ≡ payloadOf h f → p ≡ stretchOf own (s .ports) rest k → placeIn s h f k ≡ inFrame (headerEnd h) p
+  unfolding placeIn
+  placed own rest p operates mine e q = rw (operates, q, e, mine)
+
+  pub placed-inside
+      : (own : PortId) (rest : List ℕ) (p : found.StretchPlace) → rest ≡ payloadOf h f → headerEnd h ≤ length f → p ≡ stretchOf own (s .ports) rest k
+      → headerEnd h + (p .stretch .at + p .stretch .bytes) ≤ length f
+  placed-inside own rest p e fits q =
+      let i = stretch-inside own (s .ports) rest k in
+      let n : length rest ≡ length f - headerEnd h = ap length e ∙ length-drop (headerEnd h) f in
+      omega (arith, ap (λ (x : found.StretchPlace). x .stretch .at) q, ap (λ (x : found.StretchPlace). x .stretch .bytes) q)
+
+-- ---- the stretch lies within the frame, so that it is cut out whole
+
+-- a place of the frame
+abbrev Within : ℕ → StretchPlace → Type 0
+Within n p = p .at + p .bytes ≤ n
+
+in-frame : (begins n : ℕ) (p : found.StretchPlace) → begins + (p .stretch .at + p .stretch .bytes) ≤ n → Within n (inFrame begins p)
+in-frame begins n p h = go (eqb (p .stretch .bytes) 0)
+  where
+    go : (b : Bool) → Within n (cond b (empty (answerIf (p .lost))) (record { answer = answerIf (p .lost); at = begins + p .stretch .at; bytes = p .stretch .bytes }))
+    go true = omega arith
+    go false = omega arith
+
+within-place : (s : Station) (h : Hlend) (f : List ℕ) (k : ℕ) → headerEnd h ≤ length f → Within (length f) (placeIn s h f k)
+unfolding placeIn
+within-place s h f k fits = go (isOperating (s .activation))
+  where
+    own : PortId
+    own = managementPort (s .link .onu)
+
+    go : (b : Bool) → Within (length f) (cond b (inFrame (headerEnd h) (stretchOf own (s .ports) (payloadOf h f) k)) (empty Done))
+    go true = in-frame (headerEnd h) (length f) (stretchOf own (s .ports) (payloadOf h f) k) (placed-inside s h f k own (payloadOf h f) (stretchOf own (s .ports) (payloadOf h f) k) refl fits refl)
+    go false = omega arith
+
+by-hlend : (r : Found Hlend) (s : Station) (f : List ℕ) (k : ℕ) → Within (length f) (placeBy r s f k)
+by-hlend unreadable s f k = omega arith
+by-hlend short s f k = omega arith
+by-hlend (fields h) s f k = go (leb (headerEnd h) (length f)) refl
+  where
+    go : (b : Bool) → leb (headerEnd h) (length f) ≡ b → Within (length f) (cond b (placeIn s h f k) (empty HeaderTooLong))
+    go true e = within-place s h f k (leb-true (headerEnd h) (length f) e)
+    go false e = omega arith
+
+pub within-frame : (s : Station) (f : List ℕ) (k : ℕ) → Within (length f) (stretchPlace s f k)
+unfolding stretchPlace
+within-frame s f k = first (inRange s) (lengthFits (length f))
+  where
+    first : (a b : Bool) → Within (length f) (cond (not a) (empty StateOutOfRange) (cond (not b) (empty FrameLengthUnfit) (placeBy (readHlend f) s f k)))
+    first false b = omega arith
+    first true false = omega arith
+    first true true = by-hlend (readHlend f) s f k
+
+pub cut-fully
+    : (s : Station) (f : List ℕ) (k : ℕ) (p : StretchPlace) → p ≡ stretchPlace s f k
+    → cutOut f (record { at = p .at; bytes = p .bytes }) ≡ cut (stretchPlace s f k) f
+cut-fully s f k p e =
+    let w = subst (Within (length f)) (sym e) (within-frame s f k) in
+    rw (le-leb (p .at) (length f) (omega (arith, w)), le-leb (p .bytes) (length f - p .at) (omega (arith, w))) (ap (λ (x : StretchPlace). cut x f) e)
