@@ -15,3 +15,7 @@ pub use times::lost;
 pub use alone::StretchPlace;
 pub use alone::stretch;
 pub use alone::stretch_place;
+// The host's wishes.
+pub use host::add_port;
+pub use host::give_key;
+pub use host::remove_port;
