@@ -5,3 +5,6 @@ pub mod Messages
 pub mod Quiet
 pub mod Times
 pub mod Runs
+pub mod Plan
+pub mod Frames
+pub mod Given

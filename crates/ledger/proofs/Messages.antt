@@ -1,10 +1,9 @@
 -- Every message: the turn that it takes, and that the ledger's entry goes with it.
 -- Assumes nothing.
-use Prim.Native.Nat.{ℕ, _≤_, _<_}
-use mathlib.Core.Path.{_≡_, _∙_, refl, sym, ap}
+use Prim.Native.Nat.{ℕ}
+use mathlib.Core.Path.{_≡_, _∙_, refl, sym}
 use mathlib.Core.Bool.{Bool, true, false, _&&_, _||_, not, cond, false≢true, true≢false}
 use mathlib.Core.List.{List}
-use native.Mathlib.Omega.{arith}
 use lib.Dec.{eqb, leb, ltb}
 use lib.ListN.{length}
 use borrow.Author.Tests.{eqb-true, leb-true, leb-false, lt-ltb, le-ltb}
@@ -21,10 +20,9 @@ use Rattle.ploam.specs.declared.Content.{Content}
 use Rattle.ploam.specs.declared.Content.the-variants.{Profile, AssignOnuId, RangingTime, DeactivateOnuId, DisableSerialNumber, RequestRegistration, AssignAllocId, KeyControl, SleepAllow, Unknown}
 use Rattle.ploam.specs.declared.Received.{Received}
 use Rattle.ploam.specs.declared.Received.the-variants.{Whole, Short}
-use Rattle.ploam.specs.Layout.{messageOctets, addressOf, typeOf, micField}
-use Rattle.ploam.specs.declared.Direction.the-variants.{Downstream}
+use Rattle.ploam.specs.Layout.{messageOctets}
 use Rattle.ploam.specs.Reading.{messageOf, contentOf, received}
-use Rattle.ploam.specs.Integrity.{installedKey, genuine, micRight, micOf, same, keyFor}
+use Rattle.ploam.specs.Integrity.{installedKey, genuine, micRight}
 use Rattle.station.specs.declared.Activation.{Activation}
 use Rattle.station.specs.declared.Activation.the-variants.{Initial, SerialNumber, Ranging, Operation, Intermittent, EmergencyStop}
 use Rattle.station.specs.declared.Station.{Station}
@@ -41,15 +39,14 @@ use Rattle.effects.specs.declared.Debt.the-variants.{Free, Owes}
 use Rattle.effects.specs.declared.Effect.{Effect}
 use Rattle.effects.specs.declared.ranging.Target.{Target}
 use Rattle.effects.specs.declared.ranging.Target.the-variants.{To, Outside}
-use Rattle.effects.specs.Effects.{ignored, does, owes, answers}
+use Rattle.effects.specs.Effects.{ignored, does, answers}
 use Rattle.effects.specs.Ranging.{absolute, moved, answered, unanswered, rangingTime}
 use Rattle.effects.specs.Decisions as decided
-use Rattle.effects.specs.Decisions.{found, assignOnuId, allocChange, assignAllocId, requestRegistration, deactivate, switchOff, switchOn, switched, disable, unknownType, isBroadcast, isOurs, effectOf, room, fitting}
+use Rattle.effects.specs.Decisions.{found, assignOnuId, allocChange, assignAllocId, requestRegistration, deactivate, switchOff, switchOn, disable, unknownType, isBroadcast, isOurs, effectOf, room, fitting}
 use Rattle.effects.specs.Changes.{identify, range, setDelay, applyChange, applyDebt, applied}
 use Rattle.effects.specs.Acts.{act}
 use Rattle.effects.proofs.Acting.{act-forged}
 use Rattle.activation.specs.Receiving.{acting, receive}
-use Rattle.entries.specs.declared.Own.{Own}
 use Rattle.conduct.proofs.Valid.{both}
 use Rattle.ledger.specs.Entries.{Entry, gave, tookBack, tookAllBack, neither}
 use Rattle.ledger.specs.Messages.{isOwn, byAssignOnuId, acceptsAllocId, byType, byAssignAllocId, byDeactivate, disabling, byDisable, byContent, heeds, byMessage}

@@ -1,15 +1,15 @@
 -- The numbers among a list of Alloc-IDs: where one more comes in, and where one goes.
 -- Assumes nothing.
-use Prim.Native.Nat.{ℕ, zero, suc, _+_, _-_, _≤_, _<_}
-use mathlib.Core.Path.{_≡_, _∙_, refl, sym, ap}
+use Prim.Native.Nat.{ℕ, zero, suc, _+_, _≤_, _<_}
+use mathlib.Core.Path.{_≡_, _∙_, refl, sym}
 use mathlib.Core.Bool.{Bool, true, false, _&&_, _||_, not, cond, false≢true}
 use mathlib.Core.List.{List, [], _∷_, _++_}
 use native.Mathlib.Omega.{arith}
 use native.Mathlib.Numerals.{add-one}
 use lib.Dec.{eqb, leb}
-use lib.ListN.{length, set, take}
+use lib.ListN.{length}
 use lib.Seq.{take-suc-set}
-use borrow.Author.Tests.{eqb-true, eqb-false, eq-eqb, ne-eqb, lt-leb, leb-true}
+use borrow.Author.Tests.{eqb-true, eqb-false, ne-eqb, lt-leb, leb-true}
 use Rattle.ids.specs.declared.AllocId.{AllocId}
 use Rattle.ids.specs.Ids.{sameAlloc, assignableAlloc}
 use Rattle.station.specs.declared.held.Allocs.{Allocs}
@@ -30,15 +30,15 @@ among l n = some (sameAlloc (record { 0 = n })) l
 
 -- ---- one more at the end
 
+pub swapped : (a b c : Bool) → (a || (b || c)) ≡ (b || (a || c))
+swapped true true c = refl
+swapped true false c = refl
+swapped false true c = refl
+swapped false false c = refl
+
 some-snoc : {A : Type 0} (f : A → Bool) (l : List A) (a : A) → some f (l ++ (a ∷ [])) ≡ (f a || some f l)
 some-snoc f [] a = refl
-some-snoc f (x ∷ l) a = rw (some-snoc f l a) (swap (f x) (f a) (some f l))
-  where
-    swap : (a b c : Bool) → (a || (b || c)) ≡ (b || (a || c))
-    swap true true c = refl
-    swap true false c = refl
-    swap false true c = refl
-    swap false false c = refl
+some-snoc f (x ∷ l) a = rw (some-snoc f l a) (swapped (f x) (f a) (some f l))
 
 pub added-among
     : (a : Allocs) (id : AllocId) (n : ℕ) → a .count < addedAllocs → length (a .ids) ≡ addedAllocs

@@ -1,15 +1,14 @@
 -- Over every run from power-on, event by event: the ledger of the history is exactly the ONU-ID and the Alloc-IDs held.
 -- Assumes nothing.
-use Prim.Native.Nat.{ℕ, _+_}
+use Prim.Native.Nat.{ℕ}
 use mathlib.Core.Path.{_≡_, _∙_, refl, sym, ap, subst}
-use mathlib.Core.Logic.{_↔_}
-use mathlib.Core.Bool.{Bool, true, false, cond, true≢false}
+use mathlib.Core.Bool.{false, true≢false}
 use mathlib.Core.List.{List, [], _∷_}
 use lib.Dec.{lit≤}
 use Rattle.station.specs.declared.Activation.{Activation}
 use Rattle.station.specs.declared.Activation.the-variants.{Initial, SerialNumber, Ranging, Operation, Intermittent, EmergencyStop}
 use Rattle.station.specs.declared.Station.{Station}
-use Rattle.station.specs.States.{holdsIdentity, stateNumber, o4}
+use Rattle.station.specs.States.{holdsIdentity, o4}
 use Rattle.station.specs.Station.{powerOn}
 use Rattle.ranges.specs.Ranges.{identityFits, allocsFit}
 use Rattle.activation.specs.Receiving.{receive}
@@ -17,15 +16,16 @@ use Rattle.entries.specs.declared.Own.{Own}
 use Rattle.effects.specs.declared.Change.{Change}
 use Rattle.effects.specs.declared.Change.the-variants.{Keep, Identify, Range, Delay, AddAlloc, RemoveAlloc, Enter}
 use Rattle.ledger.specs.Events.{Event, considered, ended, unread, lost, replied, walked, carriedOver, portAdded, portRemoved, keyGiven, after, stationOf}
-use Rattle.ledger.specs.Entries.{Entry, gave, tookBack, tookAllBack, neither}
+use Rattle.ledger.specs.Entries.{Entry, neither}
 use Rattle.ledger.specs.Messages.{byMessage}
 use Rattle.ledger.specs.Times.{o6, countsTo1, countsTo2, counted, to1Ends, to2Ends}
-use Rattle.ledger.specs.Ledger.{entryOf, ledger, InLedger, holds}
+use Rattle.ledger.specs.Ledger.{entryOf, ledger, holds}
+use Rattle.ledger.specs.Promises.{Exact, Timed}
 use Rattle.ledger.specs.Plan.{ownOf}
-use Rattle.ledger.proofs.Book.{posted, stands, in-stands, stands-in, posted-alike}
-use Rattle.ledger.proofs.Turns.{holdsOwn, mayHold, Fine, Turn, stays, named, goes, adds, drops, forgets, turned, Allowed, turn-fine, turn-held}
+use Rattle.ledger.proofs.Book.{stands, in-stands, stands-in, posted-alike}
+use Rattle.ledger.proofs.Turns.{holdsOwn, Fine, stays, turned, Allowed, turn-fine, turn-held}
 use Rattle.ledger.proofs.Quiet.{reply-quiet, ports-quiet, carried-quiet, add-quiet, remove-quiet, key-quiet}
-use Rattle.ledger.proofs.Messages.{turnOf, Did, message-did}
+use Rattle.ledger.proofs.Messages.{turnOf, message-did}
 use Rattle.ledger.proofs.Times.{TimedIn, stay, Move, same-stay, frame-end-moves, lost-moves, unread-moves}
 
 -- ---- the statement
@@ -144,10 +144,22 @@ always serial registration [] = starts serial registration
 always serial registration (e ∷ h) = step (powerOn serial registration) h (always serial registration h) e
 
 -- n is in the ledger of the history exactly if it is the ONU-ID of a station that holds one, or an Alloc-ID held
-pub ledger-exact
-    : (serial registration : List ℕ) (h : List Event) (n : ℕ)
-    → InLedger (ledger (powerOn serial registration) h) n ↔ (holds (stationOf (powerOn serial registration) h) n ≡ true)
-ledger-exact serial registration h n =
-    let l = ledger (powerOn serial registration) h in
-    let e = always serial registration h .exact n in
-    ((λ i. sym e ∙ in-stands l n i), (λ t. stands-in l n (e ∙ t)))
+pub exactly : (first : Station) (h : List Event) → Kept first h → Exact first h
+exactly first h k n =
+    ((λ i. sym (k .exact n) ∙ in-stands (ledger first h) n i), (λ t. stands-in (ledger first h) n (k .exact n ∙ t)))
+
+pub ledger-exact : (serial registration : List ℕ) (h : List Event) → Exact (powerOn serial registration) h
+ledger-exact serial registration h = exactly (powerOn serial registration) h (always serial registration h)
+
+-- what is counted over the history is what the timers have run
+timed-agrees : (first : Station) (h : List Event) → Kept first h → Timed first h
+timed-agrees first h k =
+    let c1 = counted o4 countsTo1 first h in
+    let c2 = counted o6 countsTo2 first h in
+    record {
+      ranging = λ left e. subst (λ (a : Activation). TimedIn a c1 c2) e (k .timed) .1;
+      intermittent = λ left e. subst (λ (a : Activation). TimedIn a c1 c2) e (k .timed) .1;
+    }
+
+pub timers-agree : (serial registration : List ℕ) (h : List Event) → Timed (powerOn serial registration) h
+timers-agree serial registration h = timed-agrees (powerOn serial registration) h (always serial registration h)

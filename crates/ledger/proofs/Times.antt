@@ -1,8 +1,8 @@
 -- Every frame time: the turn that it takes, that the ledger's entry goes with it, and that the times counted over the
 -- history are those that the timers have run.
 -- Assumes nothing.
-use Prim.Native.Nat.{ℕ, _+_, _-_, _≤_, _<_}
-use mathlib.Core.Path.{_≡_, _∙_, refl, sym, ap}
+use Prim.Native.Nat.{ℕ, _+_, _-_, _≤_}
+use mathlib.Core.Path.{_≡_, _∙_, refl, ap}
 use mathlib.Core.Bool.{Bool, true, false, _&&_, _||_, cond, true≢false}
 use native.Mathlib.Omega.{arith}
 use lib.Dec.{eqb, leb, lit≤}
@@ -14,12 +14,10 @@ use Rattle.station.specs.Limits.{to1, to2}
 use Rattle.station.specs.States.{holdsIdentity, stateNumber, o4}
 use Rattle.station.specs.Station.{enter, withActivation}
 use Rattle.timing.specs.Timing.{countTo1, countTo2, endFrom, frameEnd, silence, lostFrom, lostState, lostTime, unreadFrom, unreadState, unreadTime}
-use Rattle.entries.specs.declared.Own.{Own}
-use Rattle.ledger.specs.Entries.{Entry, gave, tookBack, tookAllBack, neither}
+use Rattle.ledger.specs.Entries.{Entry, tookAllBack, neither}
 use Rattle.ledger.specs.Times.{o6}
 use Rattle.ledger.specs.Plan.{ownOf}
-use Rattle.ledger.proofs.Book.{posted}
-use Rattle.ledger.proofs.Turns.{holdsOwn, mayHold, Fine, Turn, stays, named, goes, adds, drops, forgets, turned, Allowed, none-held}
+use Rattle.ledger.proofs.Turns.{mayHold, Fine, Turn, stays, goes, forgets, turned, Allowed, none-held}
 
 -- ---- the statement
 
@@ -62,7 +60,7 @@ and-false : (b : Bool) → (b && false) ≡ false
 and-false true = refl
 and-false false = refl
 
-or-false : (b : Bool) → (b || false) ≡ b
+pub or-false : (b : Bool) → (b || false) ≡ b
 or-false true = refl
 or-false false = refl
 

@@ -1,8 +1,8 @@
 -- The turns that the numbers held can take, each with what it writes into the ledger.
 -- Assumes nothing.
-use Prim.Native.Nat.{ℕ, _≤_, _<_}
+use Prim.Native.Nat.{ℕ, _<_}
 use mathlib.Core.Path.{_≡_, _∙_, refl, sym, ap}
-use mathlib.Core.Bool.{Bool, true, false, _&&_, _||_, not, cond, false≢true, true≢false}
+use mathlib.Core.Bool.{Bool, true, false, _&&_, _||_, not, true≢false}
 use native.Mathlib.Omega.{arith}
 use lib.Dec.{eqb, leb}
 use lib.ListN.{length}
@@ -21,9 +21,9 @@ use Rattle.effects.specs.Decisions.{found}
 use Rattle.conduct.proofs.Valid.{both}
 use Rattle.conduct.proofs.InRangeTimes.{identity-moves}
 use Rattle.conduct.proofs.InRangeLists.{added, removed}
-use Rattle.ledger.specs.Entries.{Entry, gave, tookBack, tookAllBack, neither}
+use Rattle.ledger.specs.Entries.{Entry, gave, tookBack, neither}
 use Rattle.ledger.proofs.Book.{posted}
-use Rattle.ledger.proofs.Numbers.{among, added-among, removed-among, found-among}
+use Rattle.ledger.proofs.Numbers.{swapped, among, added-among, removed-among}
 
 -- ---- the statement
 
@@ -154,12 +154,6 @@ apart o f id a n e = go (holdsIdentity (o .activation)) refl
         let q = eqb-true n (id .0) e in
         ne-eqb n (o .onu .0) (λ (z : n ≡ o .onu .0). omega arith)
     go false h = refl
-
-swapped : (a b c : Bool) → (a || (b || c)) ≡ (b || (a || c))
-swapped true true c = refl
-swapped true false c = refl
-swapped false true c = refl
-swapped false false c = refl
 
 taken : (e i m : Bool) → (e ≡ true → i ≡ false) → (i || (not e && m)) ≡ (not e && (i || m))
 taken true i m h = rw (h refl)

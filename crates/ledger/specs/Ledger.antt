@@ -12,7 +12,7 @@ use Rattle.station.specs.Lists.{some}
 use Rattle.station.specs.States.{holdsIdentity, o4}
 use Rattle.station.specs.Held.{heldAllocs}
 use Rattle.ledger.specs.Events.{Event, considered, ended, unread, lost, replied, walked, carriedOver, portAdded, portRemoved, keyGiven, stationOf}
-use Rattle.ledger.specs.Entries.{Entry, gave, tookBack, tookAllBack, neither, takesBack}
+use Rattle.ledger.specs.Entries.{Entry, gave, tookAllBack, neither, takesBack}
 use Rattle.ledger.specs.Messages.{inState, byMessage}
 use Rattle.ledger.specs.Times.{to1Ends, to2Ends}
 

@@ -3,4 +3,5 @@ pub mod Entries
 pub mod Messages
 pub mod Times
 pub mod Ledger
+pub mod Promises
 pub mod Plan
