@@ -4,7 +4,9 @@ pub mod Turns
 pub mod Messages
 pub mod Quiet
 pub mod Times
+pub mod Keeps
 pub mod Runs
+pub mod Listed
 pub mod Plan
 pub mod Frames
 pub mod Given

@@ -3,15 +3,21 @@
 use Prim.Native.Nat.{ℕ, _%_, _+_}
 use mathlib.Core.Path.{_≡_}
 use mathlib.Core.Logic.{_↔_}
-use mathlib.Core.Bool.{true, false}
+use mathlib.Core.Bool.{Bool, true, false}
 use mathlib.Core.List.{List, [], _∷_, _++_}
+use lib.ListN.{length}
+use Rattle.ids.specs.declared.AllocId.{AllocId}
+use Rattle.ids.specs.Ids.{assignableAlloc, sameAlloc}
 use Rattle.ploam.specs.Layout.{number16}
-use Rattle.station.specs.declared.Activation.the-variants.{Ranging, Intermittent}
+use Rattle.station.specs.declared.Activation.the-variants.{Ranging, Operation, Intermittent}
 use Rattle.station.specs.declared.Station.{Station}
 use Rattle.station.specs.Limits.{to1, to2}
 use Rattle.station.specs.States.{o4}
-use Rattle.ledger.specs.Events.{Event, considered, stationOf}
-use Rattle.ledger.specs.Entries.{gave, takesBack}
+use Rattle.station.specs.Held.{heldAllocs, allocPlace}
+use Rattle.ranges.specs.Ranges.{proper}
+use Rattle.effects.specs.Decisions.{found}
+use Rattle.ledger.specs.Events.{Event, considered, ended, unread, lost, stationOf}
+use Rattle.ledger.specs.Entries.{gave, neither, takesBack}
 use Rattle.ledger.specs.Messages.{byMessage}
 use Rattle.ledger.specs.Times.{o6, countsTo1, countsTo2, counted}
 use Rattle.ledger.specs.Ledger.{entryOf, ledger, InLedger, holds}
@@ -40,3 +46,20 @@ pub record Timed (first : Station) (h : List Event) : Type 0 where
   pub ranging : (left : ℕ) → stationOf first h .activation ≡ Ranging left → left + counted o4 countsTo1 first h ≡ to1
   pub intermittent
       : (left : ℕ) → stationOf first h .activation ≡ Intermittent left → left + counted o6 countsTo2 first h ≡ to2
+
+-- "A lost time in O5, a frame in O6 and answers 4, 5, 6 by themselves take nothing back"
+pub record TakesNothing (first : Station) (h : List Event) : Type 0 where
+  pub lost-in-o5 : stationOf first h .activation ≡ Operation → entryOf first h lost ≡ neither
+  pub unread-in-o5 : stationOf first h .activation ≡ Operation → entryOf first h unread ≡ neither
+  -- answered 6 or not: the frame arrived in O5 or O6
+  pub frame-in-o5 : stationOf first h .activation ≡ Operation → (b : Bool) → entryOf first h (ended b) ≡ neither
+  pub frame-in-o6 : (left : ℕ) → stationOf first h .activation ≡ Intermittent left → (b : Bool) → entryOf first h (ended b) ≡ neither
+
+-- so that "fewer than 16 held" and "held already" say as much of the ledger: the Alloc-IDs held are distinct, as many as the
+-- station counts, and are the Alloc-IDs in the ledger
+pub record AllocsListed (first : Station) (h : List Event) : Type 0 where
+  pub distinct : proper assignableAlloc sameAlloc (heldAllocs (stationOf first h .link .allocs)) ≡ true
+  pub many : length (heldAllocs (stationOf first h .link .allocs)) ≡ stationOf first h .link .allocs .count
+  pub listed
+      : (id : AllocId) → assignableAlloc id ≡ true
+      → InLedger (ledger first h) (id .0) ↔ (found (allocPlace (stationOf first h .link .allocs) id) ≡ true)
