@@ -5,6 +5,7 @@ use Rattle.station.specs.declared.Station.{Station}
 use Rattle.ledger.specs.Events.{Event}
 use Rattle.ledger.specs.Times.{to1Ends, to2Ends}
 use Rattle.ledger.specs.Promises.{TakesNothing}
+use Rattle.ledger.proofs.Times.{and-false}
 
 pub takes-nothing : (first : Station) (h : List Event) → TakesNothing first h
 unfolding to1Ends to2Ends
@@ -12,6 +13,5 @@ takes-nothing first h =
     record {
       lost-in-o5 = λ e. rw e;
       unread-in-o5 = λ e. rw e;
-      frame-in-o5 = λ e b. rw e;
-      frame-in-o6 = λ left e b. rw e;
+      frame-elsewhere = rw (and-false (to1Ends first h));
     }

@@ -92,15 +92,15 @@ module _ (first : Station) (h : List Event) (k : Kept first h) where
         elsewhere = λ e a. silent-none (ownAt first h) e a;
       }
 
-  listed
+  on-ledger
       : (x : Activation) → ownAt first h .activation ≡ x → silent x ≡ false → holdsIdentity x ≡ true → (a : Allocation)
       → ours (ownAt first h) a ≡ true → Listed first h a
-  listed Initial e z i a o = absurd (false≢true i)
-  listed SerialNumber e z i a o = absurd (false≢true i)
-  listed (Ranging left) e z i a o = ours-after .in-o4 left e a .0 o .0
-  listed Operation e z i a o = ours-after .in-o5 e a .0 o
-  listed (Intermittent left) e z i a o = absurd (true≢false z)
-  listed EmergencyStop e z i a o = absurd (false≢true i)
+  on-ledger Initial e z i a o = absurd (false≢true i)
+  on-ledger SerialNumber e z i a o = absurd (false≢true i)
+  on-ledger (Ranging left) e z i a o = ours-after .in-o4 left e a .0 o .0
+  on-ledger Operation e z i a o = ours-after .in-o5 e a .0 o
+  on-ledger (Intermittent left) e z i a o = absurd (true≢false z)
+  on-ledger EmergencyStop e z i a o = absurd (false≢true i)
 
   discovered
       : (x : Activation) → ownAt first h .activation ≡ x → silent x ≡ false → holdsIdentity x ≡ false → (a : Allocation)
@@ -115,7 +115,7 @@ module _ (first : Station) (h : List Event) (k : Kept first h) where
   pub number-of : NumberOf first h
   number-of =
       record {
-        identified = λ e a more m i. listed (ownAt first h .activation) refl (m .sends) i a (m .owned);
+        identified = λ e a more m i. on-ledger (ownAt first h .activation) refl (m .sends) i a (m .owned);
         unidentified = λ e a more m i. discovered (ownAt first h .activation) refl (m .sends) i a (m .owned);
         operating = λ e a t r l.
             record { read = refl; sends = ap silent e; fit = t; room = r; owned = ours-after .in-o5 e a .1 l; kind = refl };

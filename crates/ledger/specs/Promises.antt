@@ -3,7 +3,7 @@
 use Prim.Native.Nat.{ℕ, _%_, _+_}
 use mathlib.Core.Path.{_≡_}
 use mathlib.Core.Logic.{_↔_}
-use mathlib.Core.Bool.{Bool, true, false}
+use mathlib.Core.Bool.{true, false}
 use mathlib.Core.List.{List, [], _∷_, _++_}
 use lib.ListN.{length}
 use Rattle.ids.specs.declared.AllocId.{AllocId}
@@ -51,9 +51,8 @@ pub record Timed (first : Station) (h : List Event) : Type 0 where
 pub record TakesNothing (first : Station) (h : List Event) : Type 0 where
   pub lost-in-o5 : stationOf first h .activation ≡ Operation → entryOf first h lost ≡ neither
   pub unread-in-o5 : stationOf first h .activation ≡ Operation → entryOf first h unread ≡ neither
-  -- answered 6 or not: the frame arrived in O5 or O6
-  pub frame-in-o5 : stationOf first h .activation ≡ Operation → (b : Bool) → entryOf first h (ended b) ≡ neither
-  pub frame-in-o6 : (left : ℕ) → stationOf first h .activation ≡ Intermittent left → (b : Bool) → entryOf first h (ended b) ≡ neither
+  -- at the end of a frame that did not arrive in O4, as none answered 6 does
+  pub frame-elsewhere : entryOf first h (ended false) ≡ neither
 
 -- so that "fewer than 16 held" and "held already" say as much of the ledger: the Alloc-IDs held are distinct, as many as the
 -- station counts, and are the Alloc-IDs in the ledger
