@@ -1,2 +1,5 @@
 pub mod Headers
+pub mod Engine
+pub mod Runs
+pub mod Demand3
 pub mod Sums
