@@ -5,3 +5,4 @@ pub mod Runs
 pub mod Planning
 pub mod Timeline
 pub mod MeetsDemand3
+pub mod MeetsDemand1
