@@ -6,3 +6,4 @@ pub mod Planning
 pub mod Timeline
 pub mod MeetsDemand3
 pub mod MeetsDemand1
+pub mod Bite
