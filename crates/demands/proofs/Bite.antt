@@ -145,12 +145,12 @@ pub first-only : Demand1 firstOnly → ⊥
 unfolding handled done seriesFrom
 first-only d =
     let same : firstBy (readHlend two) searching two 0 lent ≡ firstBy (fields twoEntries) searching two 0 lent
-        = ap (λ (r : Found Hlend). firstBy r searching two 0 lent) reads-two in
+    = ap (λ (r : Found Hlend). firstBy r searching two 0 lent) reads-two in
     let answer : firstBy (readHlend two) searching two 0 lent .outcome .answer ≡ Done
-        = ap (λ (x : Left). x .outcome .answer) same ∙ only searching two 0 lent Done (handled searching twoEntries two 0 lent) handled-two .1 in
+    = ap (λ (x : Left). x .outcome .answer) same ∙ only searching two 0 lent Done (handled searching twoEntries two 0 lent) handled-two .1 in
     let e = row-two _ _ answer (d .frame searching two 0 lent) in
     let n : _≡_ {A = ℕ} 1 2
-        = ap (λ (l : List Series). records (take 1 l)) (sym two-planned) ∙ ap (λ (x : Left). x .outcome .records) (sym same ∙ e) ∙ ap records two-planned in
+    = ap (λ (l : List Series). records (take 1 l)) (sym two-planned) ∙ ap (λ (x : Left). x .outcome .records) (sym same ∙ e) ∙ ap records two-planned in
     omega (arith, n)
 
 -- ---- an Alloc-ID in O6
@@ -185,6 +185,6 @@ unfolding operating lostTime lostState silence
 forgets-allocs d =
     let row = d .lost operating in
     let r : LostRow operating Done (forgetful (lostLeft operating .station))
-        = subst (λ (x : Answer). LostRow operating x (forgetful (lostLeft operating .station))) (ap (λ (o : Outcome). o .answer) lost-operating) row in
+    = subst (λ (x : Answer). LostRow operating x (forgetful (lostLeft operating .station))) (ap (λ (o : Outcome). o .answer) lost-operating) row in
     let n : _≡_ {A = ℕ} 0 1 = ap (λ (s : Station). s .link .allocs .count) (r .1) in
     omega (arith, n)

@@ -34,10 +34,10 @@ module _ (serial registration memory : List ℕ) (calls : List Call) (f : List �
       let lent = lend (runOf lingbarrow serial registration memory calls) b in
       subst
       (λ (s : Station). (frameLeft s f delay lent .outcome .answer ≡ Done) ⊎ (frameLeft s f delay lent .outcome .answer ≡ DelineationLost)
-        → Obeys first h (mapOf hlend f) (stationOf first h .carried) (sent (frameLeft s f delay lent)))
+      → Obeys first h (mapOf hlend f) (stationOf first h .carried) (sent (frameLeft s f delay lent)))
       (always-kept serial registration memory calls .same)
       (λ a. obeys first h f delay lent hlend reads (always-numbered serial registration h) (frameLeft (stationOf first h) f delay lent .outcome .answer)
-        (frameLeft (stationOf first h) f delay lent) (table (stationOf first h) f delay lent) a)
+      (frameLeft (stationOf first h) f delay lent) (table (stationOf first h) f delay lent) a)
       answered
 
 pub meets-demand-3 : Demand3 lingbarrow
@@ -48,9 +48,9 @@ meets-demand-3 =
       ours = λ serial registration memory calls. always-ours serial registration (runOf lingbarrow serial registration memory calls .history);
       plans = λ serial registration memory calls f delay b. frame-plans serial registration memory calls f delay b;
       silent = λ serial registration memory calls f delay b x y.
-        let s = runOf lingbarrow serial registration memory calls in
-        let left = frameLeft (s .station) f delay (lend s b) in
-        nothing-sent (s .station) f delay (lend s b) (left .outcome .answer) left (table (s .station) f delay (lend s b)) x y;
+          let s = runOf lingbarrow serial registration memory calls in
+          let left = frameLeft (s .station) f delay (lend s b) in
+          nothing-sent (s .station) f delay (lend s b) (left .outcome .answer) left (table (s .station) f delay (lend s b)) x y;
       once = λ serial registration memory calls word.
-        no-word-shared (powerOn serial registration) calls (start (powerOn serial registration) memory) (started serial registration memory) word;
+          no-word-shared (powerOn serial registration) calls (start (powerOn serial registration) memory) (started serial registration memory) word;
     }

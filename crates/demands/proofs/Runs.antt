@@ -79,8 +79,8 @@ pub call-kept : (first : Station) (st : Standing) (c : Call) → Kept first st �
 call-kept first st (frame f delay b) k =
     record {
       same = subst
-        (λ (s : Station). stationOf first (befell (frameLeft s f delay (lend st b) .outcome .answer) (stationOf first (st .history)) f (lend st b) (st .history)) ≡ frameLeft s f delay (lend st b) .outcome .station)
-        (k .same) (frame-history first (st .history) f delay (lend st b));
+          (λ (s : Station). stationOf first (befell (frameLeft s f delay (lend st b) .outcome .answer) (stationOf first (st .history)) f (lend st b) (st .history)) ≡ frameLeft s f delay (lend st b) .outcome .station)
+          (k .same) (frame-history first (st .history) f delay (lend st b));
       sound = frame-sound (st .station) f delay (lend st b) (k .sound);
     }
 call-kept first st lost k =

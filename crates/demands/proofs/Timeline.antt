@@ -157,7 +157,7 @@ timeline first (c ∷ l) st k = go (step first st c k) (timeline first l (after 
         record {
           times = rest .times;
           bursts = ap (λ (x : List Burst). x ++ burstsFrom lingbarrow first (after lingbarrow first st c) l) n ∙ rest .bursts
-            ∙ ap₂ (λ (x y : ℕ). upstream.burstsOf (upstreamWords * x) y (rest .times)) t w;
+              ∙ ap₂ (λ (x y : ℕ). upstream.burstsOf (upstreamWords * x) y (rest .times)) t w;
         }
     go (passed time n t w) rest =
         let o : upstreamWords * (st .times + 1) ≡ upstreamWords * st .times + upstreamWords = omega arith in

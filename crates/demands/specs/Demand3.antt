@@ -103,19 +103,19 @@ Plans answer first st f left =
 pub record Demand3 (E : Engine) : Type 0 where
   -- what is ours at a frame is what the ledger of the run before it says
   pub ledger : (serial registration memory : List ℕ) (calls : List Call)
-    → Exact (E .powerOn serial registration) (runOf E serial registration memory calls .history)
+      → Exact (E .powerOn serial registration) (runOf E serial registration memory calls .history)
   pub ours : (serial registration memory : List ℕ) (calls : List Call)
-    → OursAfter (E .powerOn serial registration) (runOf E serial registration memory calls .history)
+      → OursAfter (E .powerOn serial registration) (runOf E serial registration memory calls .history)
   -- a frame answered 0 or 6 is planned so
   pub plans : (serial registration memory : List ℕ) (calls : List Call) (f : List ℕ) (delay : ℕ) (b : Buffers)
-    → let st = runOf E serial registration memory calls in
-    let left = E .frame (st .station) f delay (lend st b) in
-    Plans (left .outcome .answer) (E .powerOn serial registration) st f left
+      → let st = runOf E serial registration memory calls in
+      let left = E .frame (st .station) f delay (lend st b) in
+      Plans (left .outcome .answer) (E .powerOn serial registration) st f left
   -- and after any other answer nothing is sent
   pub silent : (serial registration memory : List ℕ) (calls : List Call) (f : List ℕ) (delay : ℕ) (b : Buffers)
-    → let st = runOf E serial registration memory calls in
-    let left = E .frame (st .station) f delay (lend st b) in
-    (left .outcome .answer ≡ Done → ⊥) → (left .outcome .answer ≡ DelineationLost → ⊥) → sent left ≡ []
+      → let st = runOf E serial registration memory calls in
+      let left = E .frame (st .station) f delay (lend st b) in
+      (left .outcome .answer ≡ Done → ⊥) → (left .outcome .answer ≡ DelineationLost → ⊥) → sent left ≡ []
   -- "No two planned bursts of the run share an upstream word"
   pub once : (serial registration memory : List ℕ) (calls : List Call) (word : ℕ)
-    → takers word (burstsFrom E (E .powerOn serial registration) (start (E .powerOn serial registration) memory) calls) ≤ 1
+      → takers word (burstsFrom E (E .powerOn serial registration) (start (E .powerOn serial registration) memory) calls) ≤ 1

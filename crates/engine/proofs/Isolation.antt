@@ -83,7 +83,7 @@ module _ (s : Station) (f g : List ℕ) (delay : ℕ) (lent : Lent) (h : Hlend) 
   unfolding frameLeft
   same-frame =
       let a : byHlend (readHlend f) s f delay lent ≡ byHlend (readHlend g) s g delay lent
-          = rw (reads, same-hlend, sym long, le-leb (headerEnd h) (length f) fits) same-handled in
+      = rw (reads, same-hlend, sym long, le-leb (headerEnd h) (length f) fits) same-handled in
       rw (a, long)
 
 -- "Two frames that differ only in payload bytes of ports not ours have equal answers, outputs and next states"

@@ -71,8 +71,8 @@ dropped p i waits q f =
       waiting = length-set (p .waiting) i waits ∙ f .waiting;
       held = f .held;
       partials = one-changed (p .ids) (p .lengths) (set (p .lengths) i 0) (p .waiting) (set (p .waiting) i waits) i
-        (λ d n. (getD-set-other (p .lengths) i d 0 0 n, getD-set-other (p .waiting) i d waits false n))
-        here (f .partials);
+          (λ d n. (getD-set-other (p .lengths) i d 0 0 n, getD-set-other (p .waiting) i d waits false n))
+          here (f .partials);
     }
   where
     here : slotFits (p .ids) (set (p .lengths) i 0) (set (p .waiting) i waits) i ≡ true
@@ -88,7 +88,7 @@ added p i n q most clear there f =
       waiting = f .waiting;
       held = f .held;
       partials = one-changed (p .ids) (p .lengths) (set (p .lengths) i n) (p .waiting) (p .waiting) i
-        (λ d k. (getD-set-other (p .lengths) i d n 0 k, refl)) here (f .partials);
+          (λ d k. (getD-set-other (p .lengths) i d n 0 k, refl)) here (f .partials);
     }
   where
     here : slotFits (p .ids) (set (p .lengths) i n) (p .waiting) i ≡ true

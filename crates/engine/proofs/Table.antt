@@ -109,8 +109,7 @@ module _ (s : Station) (f : List ℕ) (delay : ℕ) (lent : Lent) where
   handled-only : (lost : Bool) (left : Left) → Handled s f delay lent lost left
       → (left ≡ frameLeft s f delay lent) × (left .outcome .answer ≡ cond lost DelineationLost Done)
   handled-only lost left r =
-      let fits : handled s (r .hlend) f delay lent ≡ byHlend (fields (r .hlend)) s f delay lent = rw (le-leb (headerEnd (r .hlend)) (length f) (r .fits)) in
-      (
+      let fits : handled s (r .hlend) f delay lent ≡ byHlend (fields (r .hlend)) s f delay lent = rw (le-leb (headerEnd (r .hlend)) (length f) (r .fits)) in (
         r .leaves ∙ fits ∙ by-fields (r .hlend) (r .reads) ∙ passed-on (r .passed),
         ap (λ (x : Left). x .outcome .answer) (r .leaves) ∙ done-answer s (r .hlend) f delay lent ∙ ap (λ (b : Bool). cond b DelineationLost Done) (r .delineation),
       )
