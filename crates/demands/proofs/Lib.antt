@@ -7,3 +7,4 @@ pub mod Timeline
 pub mod MeetsDemand3
 pub mod MeetsDemand1
 pub mod Bite
+pub mod BiteOfDemand3
