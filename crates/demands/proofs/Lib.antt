@@ -8,3 +8,4 @@ pub mod MeetsDemand3
 pub mod MeetsDemand1
 pub mod Bite
 pub mod BiteOfDemand3
+pub mod Keeps

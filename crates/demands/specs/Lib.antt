@@ -4,4 +4,5 @@ pub mod Runs
 pub mod Demand1
 pub mod Demand3
 pub mod Wrong
+pub mod Promises
 pub mod Sums

@@ -4,5 +4,6 @@ pub mod Partitions
 pub mod Frame
 pub mod Answers
 pub mod Alike
+pub mod Counts
 pub mod Times
 pub mod Stretch

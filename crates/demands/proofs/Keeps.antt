@@ -1,0 +1,19 @@
+-- This engine keeps the paper's other promises.
+-- Assumes nothing.
+use Rattle.engine.proofs.Isolation.{frames-isolated}
+use Rattle.engine.proofs.Counts.{frame-counted}
+use Rattle.demands.specs.Engine.{lingbarrow}
+use Rattle.demands.specs.Runs.{lend, runOf}
+use Rattle.demands.specs.Promises.{Isolated, TrueCounts, NeverOutOfRange}
+use Rattle.demands.proofs.Runs.{always-kept, never-out-of-range}
+
+pub isolated : Isolated lingbarrow
+isolated = frames-isolated
+
+pub true-counts : TrueCounts lingbarrow
+true-counts serial registration memory calls f delay b =
+    let st = runOf lingbarrow serial registration memory calls in
+    frame-counted (st .station) f delay (lend st b) (always-kept serial registration memory calls .sound)
+
+pub never-one : NeverOutOfRange lingbarrow
+never-one = never-out-of-range
