@@ -1,0 +1,6 @@
+pub mod Decimals
+pub mod Texts
+pub mod LineParts
+pub mod Steps
+pub mod OneByOne
+pub mod Turns
