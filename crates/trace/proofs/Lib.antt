@@ -4,3 +4,5 @@ pub mod LineParts
 pub mod Steps
 pub mod OneByOne
 pub mod Turns
+pub mod Cuts
+pub mod Numbering

@@ -47,7 +47,7 @@ stopped-step p x text place h =
     λ i. record { at = p; text = put-nothing text place i; place = sym (add-zero place) i } in
     made ∙ ap (λ b. shownBy (cond b (record { at = p; line = [] }) (stepBy (kindOf x) p x)) text place) (sym h)
 
-kind-step : (p : At) (x : List ℕ) (k : Kind) → p .run .stopped ≡ false → k ≡ kindOf x → step p x ≡ stepBy k p x
+pub kind-step : (p : At) (x : List ℕ) (k : Kind) → p .run .stopped ≡ false → k ≡ kindOf x → step p x ≡ stepBy k p x
 unfolding step
 kind-step p x k h e = ap (λ b. cond b (record { at = p; line = [] }) (stepBy (kindOf x) p x)) h ∙ ap (λ z. stepBy z p x) (sym e)
 
