@@ -17,31 +17,31 @@ use Rattle.trace.proofs.records.wide.Reads as wide-reads
 
 -- src/records.rt:112:14
 number-requires : tie.Need-number-requires
-number-requires c κs = search needs
+number-requires c κs = tt
 
 -- src/records.rt:112:9
 wide-requires : tie.Need-wide-requires
-wide-requires c κs = search needs
+wide-requires c κs = tt
 
 -- src/records.rt:113:14
 number-requires-2 : tie.Need-number-requires-2
-number-requires-2 c κs = search needs
+number-requires-2 c κs = tt
 
 -- src/records.rt:113:9
 wide-requires-2 : tie.Need-wide-requires-2
-wide-requires-2 c κs = search needs
+wide-requires-2 c κs = tt
 
 -- src/records.rt:114:9
 long-requires : tie.Need-long-requires
-long-requires c κs = search needs
+long-requires c κs = tt
 
 -- src/records.rt:115:9
 long-requires-2 : tie.Need-long-requires-2
-long-requires-2 c κs = search needs
+long-requires-2 c κs = tt
 
 -- src/records.rt:116:9
 long-requires-3 : tie.Need-long-requires-3
-long-requires-3 c κs = search needs
+long-requires-3 c κs = tt
 
 -- src/records.rt:110:9
 put-line-requires : tie.Need-put-line-requires
@@ -49,7 +49,7 @@ put-line-requires c κs = c .before .before .before .before .before .before .bef
 
 -- src/records.rt:121:14
 onward-requires : tie.Need-onward-requires
-onward-requires c κs = search needs
+onward-requires c κs = tt
 
 -- src/records.rt:103:1
 same-length : tie.Need-same-length

@@ -28,7 +28,7 @@ returns c =
 
 -- src/records.rt:144:11
 kind-of-requires : tie.Need-kind-of-requires
-kind-of-requires c κs = search needs
+kind-of-requires c κs = tt
 
 -- src/records.rt:146:17
 enum-told : tie.Need-enum-told
@@ -36,11 +36,11 @@ enum-told c = search needs
 
 -- src/records.rt:146:17
 lost-requires : tie.Need-lost-requires
-lost-requires c κs = search needs
+lost-requires c κs = tt
 
 -- src/records.rt:149:13
 print-outcome-requires : tie.Need-print-outcome-requires
-print-outcome-requires c κs = search needs
+print-outcome-requires c κs = c .before .before .before .before .before .before .before .before .before .before .before .before .before .before .pre
 
 -- src/records.rt:163:38
 enum-told-2 : tie.Need-enum-told-2
@@ -60,7 +60,7 @@ part-frame-end c = search needs
 
 -- src/records.rt:163:17
 frame-requires : tie.Need-frame-requires
-frame-requires c κs = search needs
+frame-requires c κs = tt
 
 -- src/records.rt:164:13
 print-outcome-requires-2 : tie.Need-print-outcome-requires-2
@@ -72,15 +72,15 @@ enum-told-3 c = search needs
 
 -- src/records.rt:167:17
 put-bad-requires : tie.Need-put-bad-requires
-put-bad-requires c κs = search needs
+put-bad-requires c κs = c .before .before .before .before .before .before .before .before .before .before .before .before .pre
 
 -- src/records.rt:169:22
 stop-requires : tie.Need-stop-requires
-stop-requires c κs = search needs
+stop-requires c κs = tt
 
 -- src/records.rt:127:1
 same-length : tie.Need-same-length
-same-length c = search needs
+same-length c = c .before .before .print-outcome .kept .1 .1 .0
 
 -- src/records.rt:127:1
 returns-2 : tie.Need-returns-2
@@ -91,23 +91,23 @@ returns-2 c =
 
 -- src/records.rt:127:1
 same-length-2 : tie.Need-same-length-2
-same-length-2 c = search needs
+same-length-2 c = c .before .before .before .before .before .before .before .before .before .before .before .before .frame .kept .1 .0
 
 -- src/records.rt:127:1
 same-length-3 : tie.Need-same-length-3
-same-length-3 c = search needs
+same-length-3 c = c .before .before .before .before .before .before .before .before .before .before .before .before .frame .kept .1 .1 .1 .1 .0
 
 -- src/records.rt:127:1
 same-length-4 : tie.Need-same-length-4
-same-length-4 c = search needs
+same-length-4 c = c .before .before .before .before .before .before .before .before .before .before .before .before .frame .kept .1 .1 .1 .1 .1 .0
 
 -- src/records.rt:127:1
 same-length-5 : tie.Need-same-length-5
-same-length-5 c = search needs
+same-length-5 c = c .before .before .before .before .before .before .before .before .before .before .before .before .frame .kept .1 .1 .1 .1 .1 .1 .0
 
 -- src/records.rt:127:1
 same-length-6 : tie.Need-same-length-6
-same-length-6 c = search needs
+same-length-6 c = c .before .before .print-outcome2 .kept .1 .1 .0
 
 -- src/records.rt:127:1
 returns-3 : tie.Need-returns-3
@@ -118,7 +118,7 @@ returns-3 c =
 
 -- src/records.rt:127:1
 same-length-7 : tie.Need-same-length-7
-same-length-7 c = search needs
+same-length-7 c = c .before .before .before .put-bad .kept .1 .0
 
 -- src/records.rt:127:1
 returns-4 : tie.Need-returns-4
