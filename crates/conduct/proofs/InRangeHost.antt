@@ -31,7 +31,7 @@ use Rattle.conduct.proofs.InRangeLists.{added}
 
 -- ---- the host's calls
 
-with-ports-sound
+pub with-ports-sound
     : (s : Station) (p : Ports) → length (p .ids) ≡ addedPorts → length (p .lengths) ≡ slots → length (p .waiting) ≡ slots
     → portsFit (p .ids) ≡ true → partialsFit (p .ids) (p .lengths) (p .waiting) ≡ true → Sound s → Sound (withPorts s p)
 with-ports-sound s p a b c t u f =

@@ -1,2 +1,9 @@
 pub mod HeaderFact
 pub mod TableOfSums
+pub mod Carried
+pub mod Runs
+pub mod Planning
+pub mod Timeline
+pub mod MeetsDemand3
+pub mod MeetsDemand1
+pub mod Bite

@@ -1,17 +1,34 @@
 // The receive engine of an XG-PON terminal: one call for each frame time and each wish of the host. Every call answers for
-// every state, every frame and every lent buffer; what is unfit gets a number of the paper's table.
+// every state, every frame and every lent buffer; what is unfit gets a number of the paper's table, and what is left after
+// each number is fixed.
 mod alone;
 mod arrival;
 mod lengths;
 mod partitions;
 mod times;
 
-// A frame of 4 to 135,432 bytes has arrived: the plan of upstream bursts, the replies and the SDUs.
+// The station's state, by value; `Station::power_on` gives O1 with nothing held or carried, and has no refusal.
+pub use station::Station;
+// A frame has arrived: the plan of upstream bursts, the replies, the SDUs and the next state. Answers 0 to 6.
 pub use arrival::Outcome;
 pub use arrival::frame;
-// No frame has arrived.
+// No frame has arrived: the synchroniser reports LODS. Answers 0 or 1.
 pub use times::lost;
-// An unfragmented SDU as a part of the caller's frame.
+// Where in the caller's frame an unfragmented SDU stands. Answers 0, 1, 2, 4, 5 or 6.
 pub use alone::StretchPlace;
-pub use alone::stretch;
 pub use alone::stretch_place;
+// That part of the frame itself, exactly as long as the SDU, or the empty one.
+pub use alone::stretch;
+// The host adds a port, in the lowest empty slot. Answers 0, 1, 7, 8 or 9.
+pub use host::add_port;
+// The host removes a port. Answers 0, 1, 7 or 8.
+pub use host::remove_port;
+// The host gives the key, which counts from the next call on. Answers 0, 1 or 10.
+pub use host::give_key;
+// HLend into a lent target. Answers 0 or 11.
+pub use framing::hlend::write_hlend;
+// An allocation structure into a lent target. Answers 0 or 11.
+pub use framing::allocation::write_allocation;
+// An XGEM header, and an XGEM frame with its SDU and padding, into a lent target. Answer 0 or 11.
+pub use framing::xgem::write_xgem;
+pub use framing::xgem::write_xgem_frame;

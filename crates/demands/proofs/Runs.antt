@@ -1,0 +1,110 @@
+-- Along every run of this engine the state is in range, and it is the one that the history leaves.
+-- Assumes nothing.
+use Prim.Native.Nat.{ℕ}
+use mathlib.Core.Path.{_≡_, _∙_, refl, sym, ap, subst}
+use mathlib.Core.Bool.{Bool, true, false, not, cond}
+use mathlib.Core.List.{List, [], _∷_}
+use Rattle.ids.specs.declared.PortId.{PortId}
+use Rattle.framing.specs.declared.hlend.Hlend.{Hlend}
+use Rattle.framing.specs.Reads.{Found, fields, readHlend}
+use Rattle.station.specs.declared.Station.{Station}
+use Rattle.station.specs.declared.answers.Answer.{Answer}
+use Rattle.station.specs.declared.answers.Answer.the-variants.{Done, StateOutOfRange, FrameLengthUnfit, BufferTooShort, HlendUnreadable, HeaderTooLong, DelineationLost, PortOutOfRange, PortHeldOrNotHeld, SlotsTaken, KeyRefused, NotWritten}
+use Rattle.station.specs.Station.{powerOn}
+use Rattle.ranges.specs.Ranges.{inRange}
+use Rattle.timing.specs.Timing.{lostTime}
+use Rattle.activation.specs.Receiving.{messagesIn}
+use Rattle.bwmap.specs.Series.{lastEnd, carriedOver}
+use Rattle.bwmap.specs.Plan.{messages}
+use Rattle.conduct.proofs.InRange.{Sound, sound-in-range, power-on-sound}
+use Rattle.conduct.proofs.InRangeHost.{add-sound, remove-sound, key-sound}
+use Rattle.ledger.specs.Events.{Event, stationOf}
+use Rattle.ledger.proofs.Frames.{frame-left}
+use Rattle.engine.specs.Lengths.{Lent}
+use Rattle.engine.specs.Partitions.{messagesOf}
+use Rattle.engine.specs.Frame.{Left, isRanging, plannedIn, repliesIn, payloadIn, sentBy, next, done, handled, frameLeft}
+use Rattle.engine.specs.Times.{lostLeft}
+use Rattle.engine.specs.Answers.{Handled, Row}
+use Rattle.engine.proofs.Ranged.{frame-sound, lost-call-sound}
+use Rattle.engine.proofs.Table.{table}
+use Rattle.demands.specs.Engine.{Engine, lingbarrow}
+use Rattle.demands.specs.Runs.{Call, frame, lost, addPort, removePort, giveKey, Buffers, Standing, lend, passes, arrived, befell, after, run, start, runOf}
+
+pub record Kept (first : Station) (st : Standing) : Type 0 where
+  pub same : stationOf first (st .history) ≡ st .station
+  pub sound : Sound (st .station)
+
+-- ---- a frame leaves the station that its events leave
+
+module _ (first : Station) (h : List Event) (f : List ℕ) (delay : ℕ) (lent : Lent) where
+  handled-left : (hl : Hlend) → stationOf first (arrived (fields hl) (stationOf first h) f lent h) ≡ handled (stationOf first h) hl f delay lent .outcome .station
+  unfolding handled done sentBy next plannedIn repliesIn
+  handled-left hl =
+      frame-left first h (messages (plannedIn (stationOf first h) hl f)) (payloadIn (stationOf first h) hl f lent .receiver .ports)
+      (carriedOver (lastEnd (stationOf first h .carried) (plannedIn (stationOf first h) hl f))) (messagesIn (messagesOf hl f)) (isRanging (stationOf first h .activation)) delay (lent .replies) 0
+
+  answered : (b : Bool) (left : Left) → Handled (stationOf first h) f delay lent b left
+      → stationOf first (arrived (readHlend f) (stationOf first h) f lent h) ≡ left .outcome .station
+  answered b left r =
+      ap (λ (x : Found Hlend). stationOf first (arrived x (stationOf first h) f lent h)) (r .reads)
+      ∙ handled-left (r .hlend) ∙ sym (ap (λ (x : Left). x .outcome .station) (r .leaves))
+
+  by-row : (a : Answer) (left : Left) → Row (stationOf first h) f delay lent a left
+      → stationOf first (befell a (stationOf first h) f lent h) ≡ left .outcome .station
+  by-row Done left r = answered false left r
+  by-row StateOutOfRange left (p, e) = sym (ap (λ (x : Left). x .outcome .station) e)
+  by-row FrameLengthUnfit left (p, q, e) = sym (ap (λ (x : Left). x .outcome .station) e)
+  by-row BufferTooShort left (p, q, r, e) = sym (ap (λ (x : Left). x .outcome .station) e)
+  by-row HlendUnreadable left (p, q, e) = sym (ap (λ (x : Left). x .outcome .station) e)
+  by-row HeaderTooLong left (t, e) = sym (ap (λ (x : Left). x .outcome .station) e)
+  by-row DelineationLost left r = answered true left r
+  by-row PortOutOfRange left r = absurd r
+  by-row PortHeldOrNotHeld left r = absurd r
+  by-row SlotsTaken left r = absurd r
+  by-row KeyRefused left r = absurd r
+  by-row NotWritten left r = absurd r
+
+  pub frame-history
+      : stationOf first (befell (frameLeft (stationOf first h) f delay lent .outcome .answer) (stationOf first h) f lent h)
+      ≡ frameLeft (stationOf first h) f delay lent .outcome .station
+  frame-history = by-row (frameLeft (stationOf first h) f delay lent .outcome .answer) (frameLeft (stationOf first h) f delay lent) (table (stationOf first h) f delay lent)
+
+-- ---- every call
+
+pub lost-history : (s : Station) → Sound s → lostLeft s ≡ record { answer = Done; station = lostTime s }
+unfolding lostLeft
+lost-history s k = rw (sound-in-range s k)
+
+pub call-kept : (first : Station) (st : Standing) (c : Call) → Kept first st → Kept first (after lingbarrow first st c)
+call-kept first st (frame f delay b) k =
+    record {
+      same = subst
+          (λ (s : Station). stationOf first (befell (frameLeft s f delay (lend st b) .outcome .answer) (stationOf first (st .history)) f (lend st b) (st .history)) ≡ frameLeft s f delay (lend st b) .outcome .station)
+          (k .same) (frame-history first (st .history) f delay (lend st b));
+      sound = frame-sound (st .station) f delay (lend st b) (k .sound);
+    }
+call-kept first st lost k =
+    record {
+      same = rw (lost-history (st .station) (k .sound)) (ap lostTime (k .same));
+      sound = lost-call-sound (st .station) (k .sound);
+    }
+call-kept first st (addPort port) k =
+    record { same = ap (λ (s : Station). lingbarrow .addPort s port .station) (k .same); sound = add-sound (st .station) port (k .sound) }
+call-kept first st (removePort port) k =
+    record { same = ap (λ (s : Station). lingbarrow .removePort s port .station) (k .same); sound = remove-sound (st .station) port (k .sound) }
+call-kept first st (giveKey octets) k =
+    record { same = ap (λ (s : Station). lingbarrow .giveKey s octets .station) (k .same); sound = key-sound (st .station) octets (k .sound) }
+
+pub run-kept : (first : Station) (st : Standing) (l : List Call) → Kept first st → Kept first (run lingbarrow first st l)
+run-kept first st [] k = k
+run-kept first st (c ∷ l) k = run-kept first (after lingbarrow first st c) l (call-kept first st c k)
+
+pub started : (serial registration memory : List ℕ) → Kept (powerOn serial registration) (start (powerOn serial registration) memory)
+started serial registration memory = record { same = refl; sound = power-on-sound serial registration }
+
+pub always-kept : (serial registration memory : List ℕ) (l : List Call) → Kept (powerOn serial registration) (runOf lingbarrow serial registration memory l)
+always-kept serial registration memory l = run-kept (powerOn serial registration) (start (powerOn serial registration) memory) l (started serial registration memory)
+
+-- over any run from power-on the state is in range, so that no call answers 1
+pub never-out-of-range : (serial registration memory : List ℕ) (l : List Call) → inRange (runOf lingbarrow serial registration memory l .station) ≡ true
+never-out-of-range serial registration memory l = sound-in-range _ (always-kept serial registration memory l .sound)

@@ -1,0 +1,99 @@
+-- Demand 1: "Every call answers for every frame, every state and every lent buffer. What is unfit gets a numbered answer, and for
+-- each number it is fixed what the state and the buffers hold afterwards. The caller is never asked to have checked."
+-- No hypothesis stands before a row: the caller grants nothing.
+-- Assumes nothing.
+use Prim.Native.Nat.{ℕ}
+use mathlib.Core.Path.{_≡_}
+use mathlib.Core.Bool.{true, false}
+use mathlib.Core.List.{List}
+use Rattle.ids.specs.declared.PortId.{PortId}
+use Rattle.ids.specs.Ids.{assignablePort}
+use Rattle.station.specs.declared.Station.{Station}
+use Rattle.station.specs.declared.answers.Answer.{Answer}
+use Rattle.station.specs.declared.answers.Answer.the-variants.{Done, StateOutOfRange, FrameLengthUnfit, BufferTooShort, HlendUnreadable, HeaderTooLong, DelineationLost, PortOutOfRange, PortHeldOrNotHeld, SlotsTaken, KeyRefused, NotWritten}
+use Rattle.station.specs.States.{holdsIdentity}
+use Rattle.station.specs.Held.{withKey, installed}
+use Rattle.station.specs.Slots.{portPlace, vacancy, addPort, removePort}
+use Rattle.station.specs.Station.{withLink, withPorts}
+use Rattle.ranges.specs.Ranges.{inRange}
+use Rattle.timing.specs.Timing.{lostTime}
+use Rattle.host.specs.declared.Outcome.{Outcome}
+use Rattle.host.specs.Host.{found}
+use Rattle.engine.specs.Lengths.{Lent}
+use Rattle.engine.specs.Frame.{Left}
+use Rattle.engine.specs.Answers.{Row}
+use Rattle.demands.specs.Engine.{Engine}
+
+-- the lost frame time: 0, or 1 with nothing changed
+abbrev pub LostRow : Station → Answer → Station → Type 0
+LostRow s Done next = (inRange s ≡ true) × (next ≡ lostTime s)
+LostRow s StateOutOfRange next = (inRange s ≡ false) × (next ≡ s)
+LostRow s FrameLengthUnfit next = ⊥
+LostRow s BufferTooShort next = ⊥
+LostRow s HlendUnreadable next = ⊥
+LostRow s HeaderTooLong next = ⊥
+LostRow s DelineationLost next = ⊥
+LostRow s PortOutOfRange next = ⊥
+LostRow s PortHeldOrNotHeld next = ⊥
+LostRow s SlotsTaken next = ⊥
+LostRow s KeyRefused next = ⊥
+LostRow s NotWritten next = ⊥
+
+-- a port is added: 1, 7, 8, 9 with nothing changed, tested in that order, or it has the lowest empty slot
+abbrev pub AddRow : Station → PortId → Answer → Station → Type 0
+AddRow s port Done next =
+    (inRange s ≡ true) × (assignablePort port ≡ true) × (found (portPlace (s .ports) port) ≡ false) × (found (vacancy (s .ports)) ≡ true)
+    × (next ≡ withPorts s (addPort (s .ports) port))
+AddRow s port StateOutOfRange next = (inRange s ≡ false) × (next ≡ s)
+AddRow s port PortOutOfRange next = (inRange s ≡ true) × (assignablePort port ≡ false) × (next ≡ s)
+AddRow s port PortHeldOrNotHeld next =
+    (inRange s ≡ true) × (assignablePort port ≡ true) × (found (portPlace (s .ports) port) ≡ true) × (next ≡ s)
+AddRow s port SlotsTaken next =
+    (inRange s ≡ true) × (assignablePort port ≡ true) × (found (portPlace (s .ports) port) ≡ false) × (found (vacancy (s .ports)) ≡ false) × (next ≡ s)
+AddRow s port FrameLengthUnfit next = ⊥
+AddRow s port BufferTooShort next = ⊥
+AddRow s port HlendUnreadable next = ⊥
+AddRow s port HeaderTooLong next = ⊥
+AddRow s port DelineationLost next = ⊥
+AddRow s port KeyRefused next = ⊥
+AddRow s port NotWritten next = ⊥
+
+-- a port is removed: 1, 7, 8
+abbrev pub RemoveRow : Station → PortId → Answer → Station → Type 0
+RemoveRow s port Done next =
+    (inRange s ≡ true) × (assignablePort port ≡ true) × (found (portPlace (s .ports) port) ≡ true) × (next ≡ withPorts s (removePort (s .ports) port))
+RemoveRow s port StateOutOfRange next = (inRange s ≡ false) × (next ≡ s)
+RemoveRow s port PortOutOfRange next = (inRange s ≡ true) × (assignablePort port ≡ false) × (next ≡ s)
+RemoveRow s port PortHeldOrNotHeld next =
+    (inRange s ≡ true) × (assignablePort port ≡ true) × (found (portPlace (s .ports) port) ≡ false) × (next ≡ s)
+RemoveRow s port SlotsTaken next = ⊥
+RemoveRow s port FrameLengthUnfit next = ⊥
+RemoveRow s port BufferTooShort next = ⊥
+RemoveRow s port HlendUnreadable next = ⊥
+RemoveRow s port HeaderTooLong next = ⊥
+RemoveRow s port DelineationLost next = ⊥
+RemoveRow s port KeyRefused next = ⊥
+RemoveRow s port NotWritten next = ⊥
+
+-- a key is given: 1, 10
+abbrev pub KeyRow : Station → List ℕ → Answer → Station → Type 0
+KeyRow s octets Done next =
+    (inRange s ≡ true) × (holdsIdentity (s .activation) ≡ true) × (next ≡ withLink s (withKey (s .link) (installed octets)))
+KeyRow s octets StateOutOfRange next = (inRange s ≡ false) × (next ≡ s)
+KeyRow s octets KeyRefused next = (inRange s ≡ true) × (holdsIdentity (s .activation) ≡ false) × (next ≡ s)
+KeyRow s octets FrameLengthUnfit next = ⊥
+KeyRow s octets BufferTooShort next = ⊥
+KeyRow s octets HlendUnreadable next = ⊥
+KeyRow s octets HeaderTooLong next = ⊥
+KeyRow s octets DelineationLost next = ⊥
+KeyRow s octets PortOutOfRange next = ⊥
+KeyRow s octets PortHeldOrNotHeld next = ⊥
+KeyRow s octets SlotsTaken next = ⊥
+KeyRow s octets NotWritten next = ⊥
+
+pub record Demand1 (E : Engine) : Type 0 where
+  pub frame : (s : Station) (f : List ℕ) (delay : ℕ) (lent : Lent) → Row s f delay lent (E .frame s f delay lent .outcome .answer) (E .frame s f delay lent)
+  pub lost : (s : Station) → LostRow s (E .lost s .answer) (E .lost s .station)
+  pub add : (s : Station) (port : PortId) → AddRow s port (E .addPort s port .answer) (E .addPort s port .station)
+  pub remove : (s : Station) (port : PortId) → RemoveRow s port (E .removePort s port .answer) (E .removePort s port .station)
+  pub key : (s : Station) (octets : List ℕ) → KeyRow s octets (E .giveKey s octets .answer) (E .giveKey s octets .station)

@@ -1,0 +1,121 @@
+-- Demand 3: "Over any run from power-on, of frames, lost frame times and host calls, each burst planned is one series of that
+-- frame's map, in a state that may send, on the discovery number 1023 while we hold no identity and otherwise on numbers that
+-- messages accepted in earlier frames gave us and nothing before that frame took back. Every such series in a frame answered 0
+-- or 6 is planned once, in map order, except one that is too long, starts before the last planned burst has ended, or comes
+-- when that frame already has four planned. No two planned bursts of the run share an upstream word."
+-- Assumes nothing.
+use Prim.Native.Nat.{ℕ, _+_, _*_, _≤_}
+use mathlib.Core.Path.{_≡_}
+use mathlib.Core.Bool.{true, false, cond}
+use mathlib.Core.Logic.{_⊎_}
+use mathlib.Core.List.{List, [], _∷_, _++_}
+use Rattle.framing.specs.declared.allocation.Allocation.{Allocation}
+use Rattle.framing.specs.declared.hlend.Hlend.{Hlend}
+use Rattle.framing.specs.Reads.{fields, readHlend}
+use Rattle.station.specs.declared.Station.{Station}
+use Rattle.station.specs.declared.answers.Answer.{Answer}
+use Rattle.station.specs.declared.answers.Answer.the-variants.{Done, DelineationLost}
+use Rattle.station.specs.Limits.{upstreamWords}
+use Rattle.station.specs.States.{holdsIdentity}
+use Rattle.entries.specs.Standings.{silent}
+use Rattle.bwmap.specs.Limits.{ploamuWords}
+use Rattle.bwmap.specs.Series.{Series, standings, seriesOf}
+use Rattle.bwmap.specs.Promises.{SeriesIn, Account}
+use Rattle.bwmap.specs.Laser.{Grant, Sending, laser, burstOf, burstsOf}
+use Rattle.bwmap.specs.Upstream.{Burst, takers}
+use Rattle.ledger.specs.Events.{Event, stationOf}
+use Rattle.ledger.specs.Promises.{Exact}
+use Rattle.ledger.specs.Plan.{ownAt, Listed, Discovery, OursAfter}
+use Rattle.engine.specs.Lengths.{Lent}
+use Rattle.engine.specs.Partitions.{mapOf}
+use Rattle.engine.specs.Frame.{Left}
+use Rattle.demands.specs.Engine.{Engine}
+use Rattle.demands.specs.Runs.{Call, frame, lost, addPort, removePort, giveKey, Buffers, Standing, lend, after, runOf, start}
+
+-- ---- what the laser sends
+
+-- by what stands in the lent plan at exit, and so many records of it
+abbrev pub sent : Left → List Sending
+sent left = laser (left .outcome .records) (left .lent .plan)
+
+-- a burst's words, from its records: "1 word, 12 more if its head has PLOAMu, its GrantSizes, and 1 word"
+abbrev pub granted : List Grant → ℕ
+granted [] = 0
+granted (g ∷ l) = g .words + granted l
+
+abbrev pub wordsOf : Sending → ℕ
+wordsOf b = 1 + cond (b .ploamu) ploamuWords 0 + granted (b .grants) + 1
+
+-- upstream words are counted from power-on: 9,720 times the frame time, and the word in the frame
+abbrev pub placed : ℕ → List Sending → List Burst
+placed time [] = []
+placed time (b ∷ l) = record { from = upstreamWords * time + b .start; size = wordsOf b } ∷ placed time l
+
+-- all bursts of a run
+abbrev pub sentBy : Engine → Standing → Call → List Burst
+sentBy E st (frame f delay b) = placed (st .times) (sent (E .frame (st .station) f delay (lend st b)))
+sentBy E st lost = []
+sentBy E st (addPort port) = []
+sentBy E st (removePort port) = []
+sentBy E st (giveKey octets) = []
+
+abbrev pub burstsFrom : Engine → Station → Standing → List Call → List Burst
+burstsFrom E first st [] = []
+burstsFrom E first st (c ∷ l) = sentBy E st c ++ burstsFrom E first (after E first st c) l
+
+-- ---- one frame of a run, which comes after the history h
+
+-- every entry of a series is on a number of the ledger; while no identity is held it is one grant to 1023
+abbrev pub Numbered : Station → List Event → List Allocation → Type 0
+Numbered first h [] = Unit {0}
+Numbered first h (a ∷ l) =
+    (holdsIdentity (ownAt first h .activation) ≡ true → Listed first h a) × (holdsIdentity (ownAt first h .activation) ≡ false → Discovery a)
+    × Numbered first h l
+
+-- a planned burst: one series of the map as mended, in a state that may send
+pub record Planned (first : Station) (h : List Event) (m : List ℕ) (b : Sending) : Type 0 where
+  pub series : Series
+  pub obeyed : b ≡ burstOf series
+  pub lies : SeriesIn (ownAt first h) m series
+  pub sends : silent (ownAt first h .activation) ≡ false
+  pub numbers : Numbered first h (series .head ∷ series .more)
+
+abbrev pub AllPlanned : Station → List Event → List ℕ → List Sending → Type 0
+AllPlanned first h m [] = Unit {0}
+AllPlanned first h m (b ∷ l) = Planned first h m b × AllPlanned first h m l
+
+-- what a frame answered 0 or 6 plans, with so many words taken already by the last burst of the frame before
+pub record Obeys (first : Station) (h : List Event) (m : List ℕ) (carried : ℕ) (bursts : List Sending) : Type 0 where
+  -- each burst is one series of ours
+  pub each : AllPlanned first h m bursts
+  -- and the series of ours, in map order, are each planned once or left out for a fact that is shown
+  pub planned : List Series
+  pub are : bursts ≡ burstsOf planned
+  pub account : Account carried 0 (seriesOf (standings (ownAt first h) m)) planned
+
+abbrev pub Plans : Answer → Station → Standing → List ℕ → Left → Type 0
+Plans answer first st f left =
+    (answer ≡ Done) ⊎ (answer ≡ DelineationLost) → (hlend : Hlend) → readHlend f ≡ fields hlend
+    → Obeys first (st .history) (mapOf hlend f) (stationOf first (st .history) .carried) (sent left)
+
+-- ---- the demand
+
+pub record Demand3 (E : Engine) : Type 0 where
+  -- what is ours at a frame is what the ledger of the run before it says
+  pub ledger : (serial registration memory : List ℕ) (calls : List Call)
+      → Exact (E .powerOn serial registration) (runOf E serial registration memory calls .history)
+  pub ours : (serial registration memory : List ℕ) (calls : List Call)
+      → OursAfter (E .powerOn serial registration) (runOf E serial registration memory calls .history)
+  -- a frame answered 0 or 6 is planned so
+  pub plans : (serial registration memory : List ℕ) (calls : List Call) (f : List ℕ) (delay : ℕ) (b : Buffers)
+      → let st = runOf E serial registration memory calls in
+      let left = E .frame (st .station) f delay (lend st b) in
+      Plans (left .outcome .answer) (E .powerOn serial registration) st f left
+  -- and after any other answer nothing is sent
+  pub silent : (serial registration memory : List ℕ) (calls : List Call) (f : List ℕ) (delay : ℕ) (b : Buffers)
+      → let st = runOf E serial registration memory calls in
+      let left = E .frame (st .station) f delay (lend st b) in
+      (left .outcome .answer ≡ Done → ⊥) → (left .outcome .answer ≡ DelineationLost → ⊥) → sent left ≡ []
+  -- "No two planned bursts of the run share an upstream word"
+  pub once : (serial registration memory : List ℕ) (calls : List Call) (word : ℕ)
+      → takers word (burstsFrom E (E .powerOn serial registration) (start (E .powerOn serial registration) memory) calls) ≤ 1

@@ -1,0 +1,33 @@
+-- An engine: what its public calls return and leave, for every input. The demands are stated over any engine, so that they
+-- can be seen to shut out wrong ones.
+-- Assumes nothing.
+use Prim.Native.Nat.{ℕ}
+use mathlib.Core.List.{List}
+use Rattle.ids.specs.declared.PortId.{PortId}
+use Rattle.station.specs.declared.Station.{Station}
+use Rattle.station.specs.Station as station
+use Rattle.host.specs.declared.Outcome.{Outcome}
+use Rattle.host.specs.Host.{afterAdd, afterRemove, afterKey}
+use Rattle.engine.specs.Lengths.{Lent}
+use Rattle.engine.specs.Frame.{Left, frameLeft}
+use Rattle.engine.specs.Times.{lostLeft}
+
+pub record Engine : Type 0 where
+  pub powerOn : List ℕ → List ℕ → Station
+  pub frame : Station → List ℕ → ℕ → Lent → Left
+  pub lost : Station → Outcome
+  pub addPort : Station → PortId → Outcome
+  pub removePort : Station → PortId → Outcome
+  pub giveKey : Station → List ℕ → Outcome
+
+-- this one: each definition is the right side of the public call's contract
+abbrev pub lingbarrow : Engine
+lingbarrow =
+    record {
+      powerOn = station.powerOn;
+      frame = frameLeft;
+      lost = lostLeft;
+      addPort = afterAdd;
+      removePort = afterRemove;
+      giveKey = afterKey;
+    }

@@ -1,0 +1,77 @@
+-- The wrong engines that the paper shuts out by name, and one that forgets an Alloc-ID in O6: each is this engine with one
+-- thing wrong.
+-- Assumes nothing.
+use Prim.Native.Nat.{ℕ, _+_}
+use mathlib.Core.Bool.{Bool, true, false, cond}
+use mathlib.Core.List.{List, _∷_}
+use lib.ListN.{take, drop}
+use Rattle.framing.specs.declared.hlend.Hlend.{Hlend}
+use Rattle.framing.specs.Reads.{Found, fields, unreadable, short, readHlend}
+use Rattle.station.specs.declared.Station.{Station}
+use Rattle.station.specs.declared.answers.Answer.{Answer}
+use Rattle.station.specs.declared.answers.Answer.the-variants.{Done, StateOutOfRange, FrameLengthUnfit, BufferTooShort, HlendUnreadable, HeaderTooLong, DelineationLost, PortOutOfRange, PortHeldOrNotHeld, SlotsTaken, KeyRefused, NotWritten}
+use Rattle.station.specs.Held.{noAllocs, withAllocs}
+use Rattle.station.specs.Station.{withLink}
+use Rattle.host.specs.declared.Outcome as host
+use Rattle.engine.specs.Lengths.{Lent}
+use Rattle.engine.specs.Frame.{Left, refused, plannedIn, repliesIn, payloadIn, done, frameLeft}
+use Rattle.engine.specs.Times.{lostLeft}
+use Rattle.demands.specs.Engine.{Engine, lingbarrow}
+
+abbrev pub withFrame : (Station → List ℕ → ℕ → Lent → Left) → Engine
+withFrame call =
+    record {
+      powerOn = lingbarrow .powerOn;
+      frame = call;
+      lost = lingbarrow .lost;
+      addPort = lingbarrow .addPort;
+      removePort = lingbarrow .removePort;
+      giveKey = lingbarrow .giveKey;
+    }
+
+abbrev pub counting : ℕ → List ℕ → Left → Left
+counting n plan left =
+    record {
+      outcome = record { answer = left .outcome .answer; station = left .outcome .station; records = n; replies = left .outcome .replies; bytes = left .outcome .bytes };
+      lent = record { memory = left .lent .memory; plan = plan; replies = left .lent .replies; deliveries = left .lent .deliveries };
+    }
+
+-- "an engine that refuses all"
+abbrev pub refusesAll : Engine
+refusesAll = withFrame (λ s f delay lent. refused StateOutOfRange s lent)
+
+-- "one fixed plan": one burst, whatever the map
+abbrev pub fixedPlan : Engine
+fixedPlan = withFrame (λ s f delay lent. counting 1 (1023 ∷ 3 ∷ 500 ∷ 0 ∷ drop 4 (lent .plan)) (frameLeft s f delay lent))
+
+-- "one that writes nothing"
+abbrev pub writesNothing : Engine
+writesNothing = withFrame (λ s f delay lent. record { outcome = frameLeft s f delay lent .outcome; lent = lent })
+
+-- "one that handles the first structure .. and feigns the rest"
+abbrev pub firstBy : Found Hlend → Station → List ℕ → ℕ → Lent → Left
+firstBy unreadable s f delay lent = frameLeft s f delay lent
+firstBy short s f delay lent = frameLeft s f delay lent
+firstBy (fields h) s f delay lent = done s h f lent (take 1 (plannedIn s h f)) (repliesIn s (take 1 (plannedIn s h f)) delay lent) (payloadIn s h f lent)
+
+abbrev pub firstOnly : Engine
+firstOnly = withFrame (λ s f delay lent. firstBy (readHlend f) s f delay lent)
+
+-- "invented counts of records"
+abbrev pub inventedCounts : Engine
+inventedCounts = withFrame (λ s f delay lent. counting (frameLeft s f delay lent .outcome .records + 1) (frameLeft s f delay lent .lent .plan) (frameLeft s f delay lent))
+
+-- a lost time after which no Alloc-ID is held
+abbrev pub forgetful : Station → Station
+forgetful s = withLink s (withAllocs (s .link) noAllocs)
+
+abbrev pub forgetsAllocs : Engine
+forgetsAllocs =
+    record {
+      powerOn = lingbarrow .powerOn;
+      frame = lingbarrow .frame;
+      lost = λ s. record { answer = lostLeft s .answer; station = forgetful (lostLeft s .station) };
+      addPort = lingbarrow .addPort;
+      removePort = lingbarrow .removePort;
+      giveKey = lingbarrow .giveKey;
+    }

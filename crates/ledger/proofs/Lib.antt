@@ -1,0 +1,12 @@
+pub mod Book
+pub mod Numbers
+pub mod Turns
+pub mod Messages
+pub mod Quiet
+pub mod Times
+pub mod Keeps
+pub mod Runs
+pub mod Listed
+pub mod Plan
+pub mod Frames
+pub mod Given

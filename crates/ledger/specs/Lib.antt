@@ -1,0 +1,7 @@
+pub mod Events
+pub mod Entries
+pub mod Messages
+pub mod Times
+pub mod Ledger
+pub mod Promises
+pub mod Plan
