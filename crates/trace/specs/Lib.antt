@@ -1,0 +1,5 @@
+pub mod Lines
+pub mod Records
+pub mod Runs
+pub mod Reads
+pub mod Sessions
