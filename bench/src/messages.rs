@@ -10,6 +10,7 @@ use xgpon_peer::{frame, Activation, Hlend, Lent, OnuId, Station};
 
 extern "C" {
     fn bench_messages(messages: *const u8, len: usize) -> u32;
+    fn bench_genuine(messages: *const u8, len: usize) -> usize;
 }
 
 const MOST_MESSAGES: usize = 255;
@@ -68,6 +69,17 @@ fn ours(f: &[u8]) -> u32 {
     unsafe { bench_messages(f[4..].as_ptr(), f.len() - 4) }
 }
 
+/// How many messages the integrity check alone finds genuine, by one key of the peer's.
+fn peer_genuine(key: &Portable, messages: &[Message]) -> usize {
+    let right = |m: &&Message| key.mic(Direction::Downstream, m[..40].try_into().unwrap()) == m[40..];
+    messages.iter().filter(right).count()
+}
+
+fn ours_genuine(messages: &[Message]) -> usize {
+    let octets = messages.as_flattened();
+    unsafe { bench_genuine(octets.as_ptr(), octets.len()) }
+}
+
 fn framed(messages: &[Message]) -> Vec<u8> {
     let header = Hlend { map_entries: 0, messages: messages.len() as u8, ..Default::default() };
     let mut f = header.word().unwrap().to_be_bytes().to_vec();
@@ -85,6 +97,22 @@ pub fn run(measure: bool) {
         let to = [5, 6, 1023][(rng.next() % 3) as usize];
         ranging_time(to, (rng.next() % 4) as u8, i * 100, rng.next() % 4 != 0)
     });
+    let right = all(&mut |i| ranging_time(5, ABSOLUTE, i, true));
+    for (name, messages, key) in [
+        ("default key", &default_key, Portable::default_key()),
+        ("installed key", &right, &Portable::new(&KEY)),
+        ("installed key, not right", &installed, &Portable::new(&KEY)),
+    ] {
+        assert_eq!(peer_genuine(key, messages), ours_genuine(messages), "{name}");
+        if measure {
+            compare(
+                &format!("check alone, {name}"),
+                MOST_MESSAGES,
+                || { black_box(peer_genuine(black_box(key), black_box(messages))); },
+                || { black_box(ours_genuine(black_box(messages))); },
+            );
+        }
+    }
     for (name, messages) in [
         ("checked by the default key", &default_key),
         ("checked by the key, not right", &installed),

@@ -4,11 +4,17 @@ ghost use mathlib.Core.Path.{_≡_};
 ghost use lib.ListN.{length};
 ghost use Rattle.cmac.specs.ByTable.{Ready};
 ghost use Rattle.station.specs.Limits.{keyOctets};
+ghost use Rattle.effects.specs.Effects.{ignored};
+ghost use Rattle.effects.specs.Changes.{applied};
+ghost use Rattle.activation.specs.Asking.{askedOf};
 ghost use Rattle.activation.specs.Receiving.{genuineNow, receivedBy, receivedAllBy, AllReceived};
 
 pub mod replying;
 
 use cmac::Prepared;
+use effects::Change;
+use effects::Debt;
+use effects::Effect;
 use ploam::Received;
 use station::Station;
 
@@ -25,24 +31,60 @@ fn genuine_now(t: &[u32; 1024], usual: Prepared, installed: Prepared, held: bool
     ploam::integrity::genuine(t, usual, usual, m)
 }
 
-// The integrity check is made last: it costs most, and a failed test of any kind ignores the message.
-fn receive(t: &[u32; 1024], usual: Prepared, installed: Prepared, s: Station, m: &[u8]) -> Station
-    ensures { λ r. ⌜ r ≡ receivedBy (now (t .entry)) usual installed s (now (m .entry)) ⌝ }
+fn ignored() -> Effect
+    ensures { λ r. ⌜ r ≡ ignored ⌝ }
+{
+    Effect {
+        change: Change::Keep,
+        debt: Debt::Free,
+    }
+}
+
+// What a message does. The integrity check is made last: it costs most, and a failed test of any kind ignores the message.
+fn considered(t: &[u32; 1024], usual: Prepared, installed: Prepared, s: Station, m: &[u8]) -> Effect
+    ensures { λ r. ⌜ applied s r ≡ receivedBy (now (t .entry)) usual installed s (now (m .entry)) ⌝ }
 {
     match ploam::reading::read(m) {
         Received::Whole(message) => {
             let e = effects::decide(s, message);
             if e.is_ignored() {
-                return s;
+                return ignored();
             }
             let link = s.link;
             let key = link.key;
             if genuine_now(t, usual, installed, key.held, m) {
-                return effects::apply(s, e);
+                return e;
             }
-            s
+            ignored()
         }
-        Received::Short => s,
+        Received::Short => ignored(),
+    }
+}
+
+// What an effect asks of the state. A message that changes nothing, or the delay alone, leaves all else where it is: a frame
+// may have 255 of them, and copies of the state show beside their checks.
+pub enum Asked {
+    Nothing,
+    Delay(u32),
+    More,
+}
+
+fn asked_by(e: Effect) -> Asked
+    ensures { λ r. ⌜ r ≡ askedOf (e .change) (e .debt) ⌝ }
+{
+    let change = e.change;
+    let debt = e.debt;
+    match debt {
+        Debt::Free => match change {
+            Change::Keep => Asked::Nothing,
+            Change::Identify(_) => Asked::More,
+            Change::Range(_) => Asked::More,
+            Change::Delay(delay) => Asked::Delay(delay),
+            Change::AddAlloc(_) => Asked::More,
+            Change::RemoveAlloc(_) => Asked::More,
+            Change::Enter(_) => Asked::More,
+        },
+        Debt::Owes(_) => Asked::More,
     }
 }
 
@@ -61,7 +103,16 @@ fn receive_each(
     while i < n {
         let at = MESSAGE_OCTETS * i;
         let end = at + MESSAGE_OCTETS;
-        next = receive(t, usual, installed, next, &messages[at..end]);
+        let e = considered(t, usual, installed, next, &messages[at..end]);
+        match asked_by(e) {
+            Asked::Nothing => {}
+            Asked::Delay(delay) => {
+                next.link.delay = delay;
+            }
+            Asked::More => {
+                next = effects::apply(next, e);
+            }
+        }
         i += 1;
     }
     next

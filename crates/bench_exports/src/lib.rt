@@ -33,12 +33,11 @@ pub extern "C" fn bench_read32(words: &[u32]) -> u32
     ensures { λ r. ⌜ r ≡ readSum 32 (now (words .entry)) ⌝ }
 {
     let syndromes = hec::syndromes::table();
-    let remainders = hec::remainders::table();
     let flips = hec::flips::table();
     let mut sum: u32 = 0;
     let mut i: usize = 0;
     while i < words.len() {
-        sum = sum ^ value32(hec::read32_by(&syndromes, &remainders, &flips, words[i]));
+        sum = sum ^ value32(hec::read32_by(&syndromes, &flips, words[i]));
         i += 1;
     }
     sum
@@ -49,12 +48,11 @@ pub extern "C" fn bench_read64(words: &[u64]) -> u64
     ensures { λ r. ⌜ r ≡ readSum 64 (now (words .entry)) ⌝ }
 {
     let syndromes = hec::syndromes::table();
-    let remainders = hec::remainders::table();
     let flips = hec::flips::table();
     let mut sum: u64 = 0;
     let mut i: usize = 0;
     while i < words.len() {
-        sum = sum ^ value64(hec::read64_by(&syndromes, &remainders, &flips, words[i]));
+        sum = sum ^ value64(hec::read64_by(&syndromes, &flips, words[i]));
         i += 1;
     }
     sum

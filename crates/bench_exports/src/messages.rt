@@ -1,7 +1,9 @@
 // The messages of a frame, for a station in O5 with ONU-ID 5 and a key.
 ghost use mathlib.Core.Path.{_≡_};
 ghost use Rattle.activation.specs.Receiving.{receiveAll, messagesIn};
-ghost use Rattle.bench_exports.specs.Messages.{benchStation};
+ghost use Prim.Native.Nat.{_≤_};
+ghost use Rattle.bench_exports.specs.Messages.{benchStation, benchKey, oneIf, genuineCount, genuineCountBy};
+use cmac::Prepared;
 use ids::OnuId;
 use station::Activation;
 use station::Station;
@@ -29,4 +31,36 @@ pub extern "C" fn bench_messages(messages: &[u8]) -> u32
     let s = activation::receive_all(bench_station(), messages);
     let link = s.link;
     link.delay
+}
+
+fn one_if(b: bool) -> usize
+    ensures { λ r. ⌜ (r ≡ oneIf b) × (r ≤ 1) ⌝ }
+{
+    if b { 1 } else { 0 }
+}
+
+fn count_genuine(t: &[u32; 1024], usual: Prepared, installed: Prepared, messages: &[u8]) -> usize
+    ensures { λ r. ⌜ r ≡ genuineCountBy (now (t .entry)) usual installed (messagesIn (now (messages .entry))) ⌝ }
+{
+    let n = messages.len() / 48;
+    let mut sum: usize = 0;
+    let mut i: usize = 0;
+    while i < n {
+        let at = 48 * i;
+        let end = at + 48;
+        sum = sum + one_if(ploam::integrity::genuine(t, usual, installed, &messages[at..end]));
+        i += 1;
+    }
+    sum
+}
+
+// How many of them are genuine: the integrity check alone, by the default key or that of the station.
+#[no_mangle]
+pub extern "C" fn bench_genuine(messages: &[u8]) -> usize
+    ensures { λ r. ⌜ r ≡ genuineCount benchKey (messagesIn (now (messages .entry))) ⌝ }
+{
+    let t = aes::table::MIX;
+    let usual = ploam::integrity::default_key();
+    let installed = cmac::prepare(&t, [9u8; 16]);
+    count_genuine(&t, usual, installed, messages)
 }

@@ -30,8 +30,8 @@ bytes m h (suc n) k = go (decLt k (length m)) (bytes m h n (suc k))
     go (yes l) b = rw (drop-cons m k 0 l) (h k, b)
     go (no l) b = rw (drop-of-length-le m {i = k} (omega arith)) tt
 
-module _ (syndromes remainders flips m : List ℕ) (true-tables : Tables syndromes remainders flips) (octets : (k : ℕ) → getD m k 0 < 256) where
-  lent : (k : ℕ) → readBy syndromes remainders flips (drop k m) ≡ readAllocation (drop k m)
+module _ (syndromes flips m : List ℕ) (true-tables : Tables syndromes flips) (octets : (k : ℕ) → getD m k 0 < 256) where
+  lent : (k : ℕ) → readBy syndromes flips (drop k m) ≡ readAllocation (drop k m)
   lent k = go (leb 8 (length (drop k m))) refl
     where
       small : 8 ≤ length (drop k m) → value (take 8 (drop k m)) < 2 ^ 64
@@ -39,16 +39,16 @@ module _ (syndromes remainders flips m : List ℕ) (true-tables : Tables syndrom
           subst (λ (n : ℕ). value (take 8 (drop k m)) < 256 ^ n) (length-take-le 8 (drop k m) l) (value-lt (take 8 (drop k m)) (bytes m octets 8 k))
 
       go : (b : Bool) → leb 8 (length (drop k m)) ≡ b
-          → _≡_ {A = Found Allocation} (cond b (taken allocationOf (readingBy syndromes remainders flips 8 (value (take 8 (drop k m))))) short)
+          → _≡_ {A = Found Allocation} (cond b (taken allocationOf (readingBy syndromes flips 8 (value (take 8 (drop k m))))) short)
           (cond b (taken allocationOf (reading 64 (value (take 8 (drop k m))))) short)
       go true e =
           ap (taken allocationOf)
-          (lent64 syndromes remainders flips (true-tables .octets) (true-tables .places) (true-tables .repairs) (value (take 8 (drop k m))) (small (leb-true 8 (length (drop k m)) e)))
+          (lent64 syndromes flips (true-tables .octets) (true-tables .repairs) (value (take 8 (drop k m))) (small (leb-true 8 (length (drop k m)) e)))
       go false e = refl
 
   -- the entry that starts at octet 8 i of a map
-  pub read-entry : (i : ℕ) → readBy syndromes remainders flips (take (length m - 8 * i) (drop (8 * i) m)) ≡ entryAt m i
+  pub read-entry : (i : ℕ) → readBy syndromes flips (take (length m - 8 * i) (drop (8 * i) m)) ≡ entryAt m i
   unfolding entryAt
   read-entry i =
       let whole : take (length m - 8 * i) (drop (8 * i) m) ≡ drop (8 * i) m = take-all (length m - 8 * i) (drop (8 * i) m) (omega (arith, length-drop (8 * i) m)) in
-      ap (readBy syndromes remainders flips) whole ∙ lent (8 * i)
+      ap (readBy syndromes flips) whole ∙ lent (8 * i)

@@ -2,9 +2,8 @@
 -- Assumes nothing.
 use mathlib.Core.List.{List}
 use Prim.Native.Nat.{ℕ}
-use Rattle.hec.specs.Lent.{Syndromes, Remainders, Flips}
+use Rattle.hec.specs.Lent.{Syndromes, Flips}
 
-pub record Tables (syndromes remainders flips : List ℕ) : Type 0 where
+pub record Tables (syndromes flips : List ℕ) : Type 0 where
   pub octets : Syndromes syndromes
-  pub places : Remainders remainders
   pub repairs : Flips flips

@@ -64,7 +64,6 @@ fn carried_over(end: usize) -> u16
 // The series whose head stands at `at`: planned and written, or passed over.
 fn burst(
     syndromes: &[u16; 2048],
-    remainders: &[u16; 63],
     flips: &[u16; 4096],
     map: &[u8],
     own: Own,
@@ -73,11 +72,11 @@ fn burst(
     w: Walk,
     plan: &mut [u16],
 ) -> Walk
-    requires { ⌜ Tables (now syndromes) (now remainders) (now flips) × (at < entryCount (now map)) × (standing own (entryAt (now map) at) ≡ Head h) × (planNumbers ≤ length (now plan)) × Small w ⌝ }
+    requires { ⌜ Tables (now syndromes) (now flips) × (at < entryCount (now map)) × (standing own (entryAt (now map) at) ≡ Head h) × (planNumbers ≤ length (now plan)) × Small w ⌝ }
     ensures { λ r. ⌜ Small r × (at < r .at) × (r .at ≤ entryCount (now (map .entry))) × (toCome own (now (map .entry)) (now (plan .exit)) r ≡ toCome own (now (map .entry)) (now (plan .entry)) (movedTo at w)) ⌝ }
 {
     let from = at + 1;
-    let r = series::run_from(syndromes, remainders, flips, map, own, from);
+    let r = series::run_from(syndromes, flips, map, own, from);
     let next = from + r.count;
     let words = series::burst_words(h, r.grants);
     let start = series::long(h.start);
@@ -93,7 +92,7 @@ fn burst(
         };
     }
     let place = records::NUMBERS_A_RECORD * w.records;
-    records::write_series(syndromes, remainders, flips, map, own, from, h, plan, place);
+    records::write_series(syndromes, flips, map, own, from, h, plan, place);
     Walk {
         at: next,
         records: w.records + (r.count + 1),
@@ -106,18 +105,17 @@ fn burst(
 // The next series of ours, if there is one.
 fn turn(
     syndromes: &[u16; 2048],
-    remainders: &[u16; 63],
     flips: &[u16; 4096],
     map: &[u8],
     own: Own,
     w: Walk,
     plan: &mut [u16],
 ) -> Walk
-    requires { ⌜ Tables (now syndromes) (now remainders) (now flips) × (w .at < entryCount (now map)) × (planNumbers ≤ length (now plan)) × Small w ⌝ }
+    requires { ⌜ Tables (now syndromes) (now flips) × (w .at < entryCount (now map)) × (planNumbers ≤ length (now plan)) × Small w ⌝ }
     ensures { λ r. ⌜ Small r × (w .at < r .at) × (r .at ≤ entryCount (now (map .entry))) × (toCome own (now (map .entry)) (now (plan .exit)) r ≡ toCome own (now (map .entry)) (now (plan .entry)) w) ⌝ }
 {
-    match series::next_head(syndromes, remainders, flips, map, own, w.at) {
-        Next::At(at, h) => burst(syndromes, remainders, flips, map, own, at, h, w, plan),
+    match series::next_head(syndromes, flips, map, own, w.at) {
+        Next::At(at, h) => burst(syndromes, flips, map, own, at, h, w, plan),
         Next::Nowhere => Walk {
             at: map.len() / series::STRUCTURE_OCTETS,
             records: w.records,
@@ -131,14 +129,13 @@ fn turn(
 // The walk over the whole map. Once the last burst that a frame may have is planned, every series is passed over.
 fn walk_map(
     syndromes: &[u16; 2048],
-    remainders: &[u16; 63],
     flips: &[u16; 4096],
     map: &[u8],
     own: Own,
     carried: u16,
     plan: &mut [u16],
 ) -> Walk
-    requires { ⌜ Tables (now syndromes) (now remainders) (now flips) × (planNumbers ≤ length (now plan)) ⌝ }
+    requires { ⌜ Tables (now syndromes) (now flips) × (planNumbers ≤ length (now plan)) ⌝ }
     ensures { λ r. ⌜ Small r × (outcome (now (plan .exit)) r [] ≡ toCome own (now (map .entry)) (now (plan .entry)) (starting carried)) ⌝ }
 {
     let mut w = Walk {
@@ -153,7 +150,7 @@ fn walk_map(
         if series::BURSTS_A_FRAME <= w.bursts {
             return w;
         }
-        w = turn(syndromes, remainders, flips, map, own, w, plan);
+        w = turn(syndromes, flips, map, own, w, plan);
     }
     w
 }
@@ -176,9 +173,8 @@ pub fn plan_map(map: &[u8], own: Own, carried: u16, plan: &mut [u16]) -> Answer
         });
     }
     let syndromes = hec::syndromes::table();
-    let remainders = hec::remainders::table();
     let flips = hec::flips::table();
-    let w = walk_map(&syndromes, &remainders, &flips, map, own, carried, plan);
+    let w = walk_map(&syndromes, &flips, map, own, carried, plan);
     Answer::Planned(Plan {
         records: w.records,
         bursts: w.bursts,

@@ -60,7 +60,6 @@ fn put(plan: &mut [u16], at: usize, a: Allocation, flags: u16, start: u16)
 // The records of the entries from `from` on that continue the burst of the head h.
 fn write_more(
     syndromes: &[u16; 2048],
-    remainders: &[u16; 63],
     flips: &[u16; 4096],
     map: &[u8],
     own: Own,
@@ -69,7 +68,7 @@ fn write_more(
     plan: &mut [u16],
     at: usize,
 )
-    requires { ⌜ Tables (now syndromes) (now remainders) (now flips) × (from ≤ entryCount (now map)) × (at + 60 ≤ length (now plan)) ⌝ }
+    requires { ⌜ Tables (now syndromes) (now flips) × (from ≤ entryCount (now map)) × (at + 60 ≤ length (now plan)) ⌝ }
     ensures { λ r. ⌜ now (plan .exit) ≡ sets (now (plan .entry)) at (moreNumbers h (run 15 (rest own (now (map .entry)) from))) ⌝ }
 {
     let n = map.len() / series::STRUCTURE_OCTETS;
@@ -78,7 +77,7 @@ fn write_more(
         if n <= from + k {
             return;
         }
-        match series::standing_at(syndromes, remainders, flips, map, own, from + k) {
+        match series::standing_at(syndromes, flips, map, own, from + k) {
             Standing::More(a) => {
                 put(
                     plan,
@@ -102,7 +101,6 @@ fn write_more(
 // The records of a whole burst: its head h, and the entries from `from` on that continue it.
 pub(crate) fn write_series(
     syndromes: &[u16; 2048],
-    remainders: &[u16; 63],
     flips: &[u16; 4096],
     map: &[u8],
     own: Own,
@@ -111,13 +109,12 @@ pub(crate) fn write_series(
     plan: &mut [u16],
     at: usize,
 )
-    requires { ⌜ Tables (now syndromes) (now remainders) (now flips) × (from ≤ entryCount (now map)) × (at + 64 ≤ length (now plan)) ⌝ }
+    requires { ⌜ Tables (now syndromes) (now flips) × (from ≤ entryCount (now map)) × (at + 64 ≤ length (now plan)) ⌝ }
     ensures { λ r. ⌜ now (plan .exit) ≡ sets (now (plan .entry)) at (seriesNumbers (seriesAt h (rest own (now (map .entry)) from))) ⌝ }
 {
     put(plan, at, h, head_flags(h), h.start);
     write_more(
         syndromes,
-        remainders,
         flips,
         map,
         own,

@@ -52,26 +52,18 @@ pub(crate) fn long(x: u16) -> usize
 }
 
 // The i-th entry of a map.
-fn read_at(
-    syndromes: &[u16; 2048],
-    remainders: &[u16; 63],
-    flips: &[u16; 4096],
-    map: &[u8],
-    own: Own,
-    i: usize,
-) -> Standing
-    requires { ⌜ Tables (now syndromes) (now remainders) (now flips) × (i < entryCount (now map)) ⌝ }
+fn read_at(syndromes: &[u16; 2048], flips: &[u16; 4096], map: &[u8], own: Own, i: usize) -> Standing
+    requires { ⌜ Tables (now syndromes) (now flips) × (i < entryCount (now map)) ⌝ }
     ensures { λ r. ⌜ r ≡ standing own (entryAt (now (map .entry)) i) ⌝ }
 {
     let at = STRUCTURE_OCTETS * i;
-    own.standing_by(syndromes, remainders, flips, &map[at..])
+    own.standing_by(syndromes, flips, &map[at..])
 }
 
 // The first of the entries from `from` to `to`, or the first head of ours among them. All reading is done here, in one
 // loop: most entries of a map are foreign.
 fn scan(
     syndromes: &[u16; 2048],
-    remainders: &[u16; 63],
     flips: &[u16; 4096],
     map: &[u8],
     own: Own,
@@ -79,12 +71,12 @@ fn scan(
     to: usize,
     heads: bool,
 ) -> Seen
-    requires { ⌜ Tables (now syndromes) (now remainders) (now flips) × (to ≤ entryCount (now map)) ⌝ }
+    requires { ⌜ Tables (now syndromes) (now flips) × (to ≤ entryCount (now map)) ⌝ }
     ensures { λ r. ⌜ r ≡ seen own (now (map .entry)) heads from (to - from) ⌝ }
 {
     let mut i = from;
     while i < to {
-        match read_at(syndromes, remainders, flips, map, own, i) {
+        match read_at(syndromes, flips, map, own, i) {
             Standing::Head(h) => {
                 return Seen::Head(i, h);
             }
@@ -107,17 +99,16 @@ fn scan(
 
 pub(crate) fn next_head(
     syndromes: &[u16; 2048],
-    remainders: &[u16; 63],
     flips: &[u16; 4096],
     map: &[u8],
     own: Own,
     from: usize,
 ) -> Next
-    requires { ⌜ Tables (now syndromes) (now remainders) (now flips) ⌝ }
+    requires { ⌜ Tables (now syndromes) (now flips) ⌝ }
     ensures { λ r. ⌜ NextHead own (now (map .entry)) from r ⌝ }
 {
     let n = map.len() / STRUCTURE_OCTETS;
-    match scan(syndromes, remainders, flips, map, own, from, n, true) {
+    match scan(syndromes, flips, map, own, from, n, true) {
         Seen::Head(i, h) => Next::At(i, h),
         Seen::More(_) => Next::Nowhere,
         Seen::Apart(_) => Next::Nowhere,
@@ -128,16 +119,15 @@ pub(crate) fn next_head(
 // The i-th entry of a map, by itself.
 pub(crate) fn standing_at(
     syndromes: &[u16; 2048],
-    remainders: &[u16; 63],
     flips: &[u16; 4096],
     map: &[u8],
     own: Own,
     i: usize,
 ) -> Standing
-    requires { ⌜ Tables (now syndromes) (now remainders) (now flips) × (i < entryCount (now map)) ⌝ }
+    requires { ⌜ Tables (now syndromes) (now flips) × (i < entryCount (now map)) ⌝ }
     ensures { λ r. ⌜ r ≡ standing own (entryAt (now (map .entry)) i) ⌝ }
 {
-    match scan(syndromes, remainders, flips, map, own, i, i + 1, false) {
+    match scan(syndromes, flips, map, own, i, i + 1, false) {
         Seen::Head(_, h) => Standing::Head(h),
         Seen::More(a) => Standing::More(a),
         Seen::Apart(v) => Standing::Apart(v),
@@ -148,13 +138,12 @@ pub(crate) fn standing_at(
 // The entries from `from` on that continue a burst.
 pub(crate) fn run_from(
     syndromes: &[u16; 2048],
-    remainders: &[u16; 63],
     flips: &[u16; 4096],
     map: &[u8],
     own: Own,
     from: usize,
 ) -> Run
-    requires { ⌜ Tables (now syndromes) (now remainders) (now flips) × (from ≤ entryCount (now map)) ⌝ }
+    requires { ⌜ Tables (now syndromes) (now flips) × (from ≤ entryCount (now map)) ⌝ }
     ensures { λ r. ⌜ (r ≡ tally 0 0 (run 15 (rest own (now (map .entry)) from))) × (r .count ≤ 15) × (r .grants ≤ 983025) ⌝ }
 {
     let n = map.len() / STRUCTURE_OCTETS;
@@ -164,7 +153,7 @@ pub(crate) fn run_from(
         if n <= from + k {
             return Run { count: k, grants };
         }
-        match standing_at(syndromes, remainders, flips, map, own, from + k) {
+        match standing_at(syndromes, flips, map, own, from + k) {
             Standing::More(a) => {
                 grants += long(a.grant);
                 k += 1;

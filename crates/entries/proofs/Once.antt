@@ -10,9 +10,9 @@ use Rattle.entries.specs.declared.Standing.{Standing}
 use Rattle.entries.specs.Standings.{isPlanned, silent, standing, readBy}
 
 pub standing-by-once
-    : (own : Own) (syndromes remainders flips s : List ℕ) (a b : Standing)
-    → a ≡ standing own (readBy syndromes remainders flips s) → b ≡ standing own (readBy syndromes remainders flips s) → a ≡ b
-standing-by-once own syndromes remainders flips s a b p q = p ∙ sym q
+    : (own : Own) (syndromes flips s : List ℕ) (a b : Standing)
+    → a ≡ standing own (readBy syndromes flips s) → b ≡ standing own (readBy syndromes flips s) → a ≡ b
+standing-by-once own syndromes flips s a b p q = p ∙ sym q
 
 pub is-silent-once : (own : Own) (a b : Bool) → a ≡ silent (own .activation) → b ≡ silent (own .activation) → a ≡ b
 is-silent-once own a b p q = p ∙ sym q

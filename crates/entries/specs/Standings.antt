@@ -109,5 +109,5 @@ pub record Mine (own : Own) (e : Found Allocation) (a : Allocation) (more : Bool
   pub kind : continues a ≡ more
 
 -- the structure at the start of a list of octets, its word read by lent tables
-abbrev pub readBy : List ℕ → List ℕ → List ℕ → List ℕ → Found Allocation
-readBy syndromes remainders flips s = readAs (readingBy syndromes remainders flips structureOctets) structureOctets allocationOf s
+abbrev pub readBy : List ℕ → List ℕ → List ℕ → Found Allocation
+readBy syndromes flips s = readAs (readingBy syndromes flips structureOctets) structureOctets allocationOf s

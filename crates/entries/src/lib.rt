@@ -216,16 +216,10 @@ impl Own {
     }
 
     // The entry at the start of a slice, its word read by lent tables.
-    pub fn standing_by(
-        self,
-        syndromes: &[u16; 2048],
-        remainders: &[u16; 63],
-        flips: &[u16; 4096],
-        s: &[u8],
-    ) -> Standing
-        ensures { λ r. ⌜ r ≡ standing self (readBy (now (syndromes .entry)) (now (remainders .entry)) (now (flips .entry)) (now (s .entry))) ⌝ }
+    pub fn standing_by(self, syndromes: &[u16; 2048], flips: &[u16; 4096], s: &[u8]) -> Standing
+        ensures { λ r. ⌜ r ≡ standing self (readBy (now (syndromes .entry)) (now (flips .entry)) (now (s .entry))) ⌝ }
     {
-        let read = framing::allocation::read_allocation_by(syndromes, remainders, flips, s);
+        let read = framing::allocation::read_allocation_by(syndromes, flips, s);
         self.standing(read)
     }
 }

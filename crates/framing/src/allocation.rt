@@ -83,18 +83,13 @@ pub fn read_allocation(s: &[u8]) -> AllocationRead
 }
 
 // The same by lent tables, for a walk over a map.
-pub fn read_allocation_by(
-    syndromes: &[u16; 2048],
-    remainders: &[u16; 63],
-    flips: &[u16; 4096],
-    s: &[u8],
-) -> AllocationRead
-    ensures { λ r. ⌜ foundAllocation r ≡ readAs (readingBy (now (syndromes .entry)) (now (remainders .entry)) (now (flips .entry)) 8) 8 allocationOf (now (s .entry)) ⌝ }
+pub fn read_allocation_by(syndromes: &[u16; 2048], flips: &[u16; 4096], s: &[u8]) -> AllocationRead
+    ensures { λ r. ⌜ foundAllocation r ≡ readAs (readingBy (now (syndromes .entry)) (now (flips .entry)) 8) 8 allocationOf (now (s .entry)) ⌝ }
 {
     if s.len() < 8 {
         return AllocationRead::Short;
     }
-    found(hec::read64_by(syndromes, remainders, flips, octets::word64(s)))
+    found(hec::read64_by(syndromes, flips, octets::word64(s)))
 }
 
 // The allocation structure of the fields given, at the start of a target.

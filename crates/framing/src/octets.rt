@@ -40,16 +40,20 @@ pub(crate) fn word32(s: &[u8]) -> u32
     wide32(s[0]) * 0x100_0000 + (wide32(s[1]) * 0x1_0000 + (wide32(s[2]) * 0x100 + wide32(s[3])))
 }
 
+// An octet at a time, each sum taken on by the next octet: of this form the compiler makes one load.
 pub(crate) fn word64(s: &[u8]) -> u64
     requires { ⌜ 8 ≤ length (now s) ⌝ }
     ensures { λ r. ⌜ r ≡ value (take 8 (now (s .entry))) ⌝ }
 {
-    wide64(s[0]) * 0x100_0000_0000_0000
-        + (wide64(s[1]) * 0x1_0000_0000_0000
-            + (wide64(s[2]) * 0x100_0000_0000
-                + (wide64(s[3]) * 0x1_0000_0000
-                    + (wide64(s[4]) * 0x100_0000
-                        + (wide64(s[5]) * 0x1_0000 + (wide64(s[6]) * 0x100 + wide64(s[7])))))))
+    ((((((wide64(s[0]) * 0x100 + wide64(s[1])) * 0x100 + wide64(s[2])) * 0x100 + wide64(s[3]))
+        * 0x100
+        + wide64(s[4]))
+        * 0x100
+        + wide64(s[5]))
+        * 0x100
+        + wide64(s[6]))
+        * 0x100
+        + wide64(s[7])
 }
 
 fn put32(target: &mut [u8], word: u32)

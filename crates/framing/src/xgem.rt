@@ -98,18 +98,13 @@ pub fn read_xgem(s: &[u8]) -> XgemRead
 }
 
 // The same by lent tables, for a walk over a payload.
-pub fn read_xgem_by(
-    syndromes: &[u16; 2048],
-    remainders: &[u16; 63],
-    flips: &[u16; 4096],
-    s: &[u8],
-) -> XgemRead
-    ensures { λ r. ⌜ foundXgem r ≡ readAs (readingBy (now (syndromes .entry)) (now (remainders .entry)) (now (flips .entry)) 8) 8 xgemOf (now (s .entry)) ⌝ }
+pub fn read_xgem_by(syndromes: &[u16; 2048], flips: &[u16; 4096], s: &[u8]) -> XgemRead
+    ensures { λ r. ⌜ foundXgem r ≡ readAs (readingBy (now (syndromes .entry)) (now (flips .entry)) 8) 8 xgemOf (now (s .entry)) ⌝ }
 {
     if s.len() < 8 {
         return XgemRead::Short;
     }
-    found(hec::read64_by(syndromes, remainders, flips, octets::word64(s)))
+    found(hec::read64_by(syndromes, flips, octets::word64(s)))
 }
 
 // The XGEM header of the fields given, at the start of a target.

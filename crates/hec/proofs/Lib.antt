@@ -7,10 +7,11 @@ pub mod Low
 pub mod Multiple
 pub mod RemainderRule
 pub mod Syndrome
-pub mod FlipRule
 pub mod Words
 pub mod Nearest
 pub mod Patterns
+pub mod Places
+pub mod FlipRule
 pub mod SyndromeRule
 pub mod LentReads
 pub mod Protected

@@ -29,7 +29,7 @@ code-few e h = omega (arith, ones-step e)
 
 -- and the table names them
 pub named : (n s e : ℕ) → n ≤ 64 → Flaw n s e → bitsOf (getD flips (remainder (e / 2)) 0) ≡ e / 2 * 2
-named n s e wide p = rule (e / 2) (half-lt 63 (lt-of-lt-of-le (p .within) (pow-mono {j = 64} wide))) (code-few e (p .few)) .0
+named n s e wide p = rule .named (e / 2) (half-lt 63 (lt-of-lt-of-le (p .within) (pow-mono {j = 64} wide))) (code-few e (p .few)) .0
 
 same-bit : (x y k : ℕ) → x < 2 → y < 2 → (x + k) % 2 ≡ (y + k) % 2 → x ≡ y
 same-bit zero zero k hx hy e = refl

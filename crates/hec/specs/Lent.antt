@@ -1,7 +1,7 @@
 -- Reading by lent tables: what the tables hold, and what reading does with any.
 -- Assumes nothing.
 use mathlib.Core.Path.{_≡_}
-use mathlib.Core.Bool.{Bool, cond, _&&_}
+use mathlib.Core.Bool.{cond}
 use mathlib.Core.List.{List}
 use Prim.Native.Nat.{ℕ, zero, suc, _+_, _*_, _/_, _%_, _^_, _<_, _≤_}
 use lib.Bits.{bitXor}
@@ -25,7 +25,8 @@ Remainders xs = (k : ℕ) → k < 63 → getD xs k 0 ≡ place k
 abbrev pub Syndromes : List ℕ → Type 0
 Syndromes xs = (o v : ℕ) → o < 8 → v < 256 → getD xs (o * 256 + v) 0 ≡ syndrome (v * 256 ^ o)
 
--- an entry of the table of flips names up to two places: each is a number below 63, or 63 for none
+-- an entry of the table of flips names up to two places and says how many they are: each is a number below 63, or 63 for
+-- none. A number above two says that there are no such places
 abbrev pub firstPlace : ℕ → ℕ
 firstPlace v = v % 64
 
@@ -36,19 +37,17 @@ secondPlace v = v / 64 % 64
 abbrev pub bitOf : ℕ → ℕ
 bitOf k = (2 * 2 ^ k) % 2 ^ 64
 
-abbrev pub countOf : ℕ → ℕ
-countOf k = cond (ltb k 63) 1 0
-
 abbrev pub bitsOf : ℕ → ℕ
 bitsOf v = bitXor (bitOf (firstPlace v)) (bitOf (secondPlace v))
 
 abbrev pub countsOf : ℕ → ℕ
-countsOf v = countOf (firstPlace v) + countOf (secondPlace v)
+countsOf v = v / 4096
 
--- at the remainder of each pattern of at most two code bits, the places of just those bits. Other entries are free: what
--- the table proposes is confirmed by the remainders
-abbrev pub Flips : List ℕ → Type 0
-Flips xs = (f : ℕ) → f < 2 ^ 63 → ones f ≤ 2 → (bitsOf (getD xs (remainder f) 0) ≡ f * 2) × (countsOf (getD xs (remainder f) 0) ≡ ones f)
+pub record Flips (xs : List ℕ) : Type 0 where
+  -- at the remainder of each pattern of at most two code bits, the places of just those bits
+  pub named : (f : ℕ) → f < 2 ^ 63 → ones f ≤ 2 → (bitsOf (getD xs (remainder f) 0) ≡ f * 2) × (countsOf (getD xs (remainder f) 0) ≡ ones f)
+  -- and what names at most two places names so many bits, with the remainder at which it stands
+  pub sound : (s : ℕ) → s < 4096 → countsOf (getD xs s 0) ≤ 2 → (remainder (bitsOf (getD xs s 0) / 2) ≡ s) × (ones (bitsOf (getD xs s 0)) ≡ countsOf (getD xs s 0))
 
 -- the sum of what a table has for the n octets of w, from the last, whose entries start at base
 abbrev pub syndromeBy : List ℕ → ℕ → ℕ → ℕ → ℕ
@@ -56,32 +55,21 @@ syndromeBy t zero base w = 0
 syndromeBy t (suc zero) base w = getD t (base + w % 256) 0
 syndromeBy t (suc (suc n)) base w = bitXor (getD t (base + w % 256) 0) (syndromeBy t (suc n) (base + 256) (w / 256))
 
-abbrev pub remainderOf : List ℕ → ℕ → ℕ
-remainderOf remainders k = cond (ltb k 63) (getD remainders k 0) 0
-
 -- the last bit is flipped where the parity of the others asks for it
 abbrev pub lastBit : ℕ → ℕ → ℕ
 lastBit v s = (countsOf v + s / 4096) % 2
 
--- what the table proposes is right where the remainders of its places sum to that of the word
-abbrev pub confirmed : List ℕ → ℕ → ℕ → Bool
-confirmed remainders v s =
-    eqb (bitXor (remainderOf remainders (firstPlace v)) (remainderOf remainders (secondPlace v))) (s % 4096)
+-- the word w with the syndrome s, and the entry v for it: mended where that takes at most two bits
+abbrev pub mendedAs : ℕ → ℕ → ℕ → Reading
+mendedAs v w s = cond (leb (countsOf v + lastBit v s) 2) (word (bitXor w (bitXor (bitsOf v) (lastBit v s)))) unreadable
 
--- the word w with the syndrome s, and the proposal v for it: mended where that takes at most two bits
-abbrev pub mendedAs : List ℕ → ℕ → ℕ → ℕ → Reading
-mendedAs remainders v w s =
-    cond (confirmed remainders v s)
-    (cond (leb (countsOf v + lastBit v s) 2) (word (bitXor w (bitXor (bitsOf v) (lastBit v s)))) unreadable)
-    unreadable
-
-abbrev pub mendedBy : List ℕ → List ℕ → ℕ → ℕ → Reading
-mendedBy remainders flips w s = mendedAs remainders (getD flips (s % 4096) 0) w s
+abbrev pub mendedBy : List ℕ → ℕ → ℕ → Reading
+mendedBy flips w s = mendedAs (getD flips (s % 4096) 0) w s
 
 -- a word of o octets: it is true as it stands where its syndrome is 0
-abbrev pub readingBy : List ℕ → List ℕ → List ℕ → ℕ → ℕ → Reading
-readingBy syndromes remainders flips o w =
-    cond (eqb (syndromeBy syndromes o 0 w) 0) (word w) (mendedBy remainders flips w (syndromeBy syndromes o 0 w))
+abbrev pub readingBy : List ℕ → List ℕ → ℕ → ℕ → Reading
+readingBy syndromes flips o w =
+    cond (eqb (syndromeBy syndromes o 0 w) 0) (word w) (mendedBy flips w (syndromeBy syndromes o 0 w))
 
 -- of a word of 32 bits only those 32 are sent, and none in front of them can be flipped
 abbrev pub sent : Reading → Reading

@@ -1,7 +1,6 @@
 // Where a word is damaged: its syndrome, and the word that is left when the bits that it points to are flipped.
 ghost use mathlib.Core.Path.{_≡_};
-ghost use Prim.Native.Nat.{_-_, _*_, _<_, _≤_};
-ghost use Rattle.hec.specs.Lent.{syndromeBy, remainderOf, countOf, mendedBy, foundMended};
+ghost use Rattle.hec.specs.Lent.{syndromeBy, mendedAs, mendedBy, foundMended};
 
 pub enum Mended {
     Word(u64),
@@ -38,45 +37,25 @@ pub(crate) fn syndrome32(t: &[u16; 2048], word: u32) -> u16
             ^ (t[512 + (w2 % 256) as usize] ^ t[768 + (w3 % 256) as usize]))
 }
 
-// 63 stands for no place. It is met without a branch: which places a damaged word needs is nothing to be guessed.
-fn unless(none: u16, x: u16) -> u16
-    requires { ⌜ none ≤ 1 ⌝ }
-    ensures { λ r. ⌜ r ≡ x * (1 - none) ⌝ }
+// 63 stands for no place, and the bit that it names falls out of the word: which places a damaged word needs is nothing to
+// be guessed by a branch.
+fn mend_as(entry: u16, word: u64, syndrome: u16) -> Mended
+    ensures { λ r. ⌜ foundMended r ≡ mendedAs entry word syndrome ⌝ }
 {
-    x * (1 - none)
-}
-
-fn remainder_of(remainders: &[u16; 63], place: usize) -> u16
-    requires { ⌜ place < 64 ⌝ }
-    ensures { λ r. ⌜ r ≡ remainderOf (now (remainders .entry)) place ⌝ }
-{
-    let none = (place + 1) / 64;
-    unless(none as u16, remainders[place - none])
-}
-
-fn count_of(place: usize) -> u64
-    requires { ⌜ place < 64 ⌝ }
-    ensures { λ r. ⌜ r ≡ countOf place ⌝ }
-{
-    1 - ((place + 1) / 64) as u64
-}
-
-pub(crate) fn mend(remainders: &[u16; 63], flips: &[u16; 4096], word: u64, syndrome: u16) -> Mended
-    ensures { λ r. ⌜ foundMended r ≡ mendedBy (now (remainders .entry)) (now (flips .entry)) word syndrome ⌝ }
-{
-    let remainder = syndrome % 4096;
-    let proposed = flips[remainder as usize];
-    let first = (proposed % 64) as usize;
-    let second = (proposed / 64 % 64) as usize;
-    if remainder_of(remainders, first) ^ remainder_of(remainders, second) != remainder {
-        return Mended::Unreadable;
-    }
-    let count = count_of(first) + count_of(second);
-    let last = (count + (syndrome / 4096) as u64) % 2;
+    let count = entry / 4096;
+    let last = (count + syndrome / 4096) % 2;
     if count + last <= 2 {
+        let first = (entry % 64) as usize;
+        let second = (entry / 64 % 64) as usize;
         let bits: u64 = (2 << first) ^ (2 << second);
-        Mended::Word(word ^ (bits ^ last))
+        Mended::Word(word ^ (bits ^ last as u64))
     } else {
         Mended::Unreadable
     }
+}
+
+pub(crate) fn mend(flips: &[u16; 4096], word: u64, syndrome: u16) -> Mended
+    ensures { λ r. ⌜ foundMended r ≡ mendedBy (now (flips .entry)) word syndrome ⌝ }
+{
+    mend_as(flips[(syndrome % 4096) as usize], word, syndrome)
 }

@@ -51,9 +51,8 @@ pub fn read64(word: u64) -> Reading64
     ensures { λ r. ⌜ Reads 64 word (found64 r) ⌝ }
 {
     let syndromes = syndromes::table();
-    let remainders = remainders::table();
     let flips = flips::table();
-    read64_by(&syndromes, &remainders, &flips, word)
+    read64_by(&syndromes, &flips, word)
 }
 
 // The true word of 32 bits at most two bits away.
@@ -61,44 +60,33 @@ pub fn read32(word: u32) -> Reading32
     ensures { λ r. ⌜ Reads 32 word (found32 r) ⌝ }
 {
     let syndromes = syndromes::table();
-    let remainders = remainders::table();
     let flips = flips::table();
-    read32_by(&syndromes, &remainders, &flips, word)
+    read32_by(&syndromes, &flips, word)
 }
 
 // The same by lent tables: whoever reads many words names each table once.
-pub fn read64_by(
-    syndromes: &[u16; 2048],
-    remainders: &[u16; 63],
-    flips: &[u16; 4096],
-    word: u64,
-) -> Reading64
-    ensures { λ r. ⌜ found64 r ≡ readingBy (now (syndromes .entry)) (now (remainders .entry)) (now (flips .entry)) 8 word ⌝ }
+pub fn read64_by(syndromes: &[u16; 2048], flips: &[u16; 4096], word: u64) -> Reading64
+    ensures { λ r. ⌜ found64 r ≡ readingBy (now (syndromes .entry)) (now (flips .entry)) 8 word ⌝ }
 {
     let syndrome = damage::syndrome64(syndromes, word);
     if syndrome == 0 {
         return Reading64::Word(Word64(word));
     }
-    let mend = damage::mend(remainders, flips, word, syndrome);
+    let mend = damage::mend(flips, word, syndrome);
     match mend {
         Mended::Word(v) => Reading64::Word(Word64(v)),
         Mended::Unreadable => Reading64::Unreadable,
     }
 }
 
-pub fn read32_by(
-    syndromes: &[u16; 2048],
-    remainders: &[u16; 63],
-    flips: &[u16; 4096],
-    word: u32,
-) -> Reading32
-    ensures { λ r. ⌜ found32 r ≡ sent (readingBy (now (syndromes .entry)) (now (remainders .entry)) (now (flips .entry)) 4 word) ⌝ }
+pub fn read32_by(syndromes: &[u16; 2048], flips: &[u16; 4096], word: u32) -> Reading32
+    ensures { λ r. ⌜ found32 r ≡ sent (readingBy (now (syndromes .entry)) (now (flips .entry)) 4 word) ⌝ }
 {
     let syndrome = damage::syndrome32(syndromes, word);
     if syndrome == 0 {
         return Reading32::Word(Word32(word));
     }
-    let mend = damage::mend(remainders, flips, word as u64, syndrome);
+    let mend = damage::mend(flips, word as u64, syndrome);
     match mend {
         Mended::Word(v) => {
             // The 32 zeros in front are not sent: a repair that needs one of them is none.

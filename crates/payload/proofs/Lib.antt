@@ -1,5 +1,6 @@
 pub mod Put
 pub mod Effects
+pub mod Marked
 pub mod Steps
 pub mod Reading
 pub mod Walks

@@ -10,7 +10,7 @@ use lib.Dec.{leb}
 use lib.ListN.{length, getD, take}
 use lib.Seq.{length-take-le}
 use Rattle.hec.specs.Reads.{Reading, word, unreadable as unreadable-word, reading}
-use Rattle.hec.specs.Lent.{Syndromes, Remainders, Flips, readingBy}
+use Rattle.hec.specs.Lent.{Syndromes, Flips, readingBy}
 use Rattle.hec.proofs.LentReads.{lent64}
 use Rattle.framing.specs.declared.xgem.XgemHeader.{XgemHeader}
 use Rattle.framing.specs.Octets.{value}
@@ -26,16 +26,16 @@ bytes-of zero s h = tt
 bytes-of (suc n) [] h = tt
 bytes-of (suc n) (x ∷ s) h = (h 0, bytes-of n s (λ i. h (suc i)))
 
-module _ (syndromes remainders flips : List ℕ) (a : Syndromes syndromes) (b : Remainders remainders) (c : Flips flips) (s : List ℕ) (bytes : (i : ℕ) → getD s i 0 < 256) where
-  pub lent-xgem : readAs (readingBy syndromes remainders flips 8) 8 xgemOf s ≡ readXgem s
+module _ (syndromes flips : List ℕ) (a : Syndromes syndromes) (b : Flips flips) (s : List ℕ) (bytes : (i : ℕ) → getD s i 0 < 256) where
+  pub lent-xgem : readAs (readingBy syndromes flips 8) 8 xgemOf s ≡ readXgem s
   lent-xgem = go (leb 8 (length s)) refl
     where
       fits : 8 ≤ length s → value (take 8 s) < 2 ^ 64
       fits h = subst (λ (n : ℕ). value (take 8 s) < 256 ^ n) (length-take-le 8 s h) (value-lt (take 8 s) (bytes-of 8 s bytes))
 
       go : (t : Bool) → leb 8 (length s) ≡ t
-          → cond t (taken xgemOf (readingBy syndromes remainders flips 8 (value (take 8 s)))) short ≡ cond t (taken xgemOf (reading 64 (value (take 8 s)))) short
-      go true e = ap (taken xgemOf) (lent64 syndromes remainders flips a b c (value (take 8 s)) (fits (leb-true 8 (length s) e)))
+          → cond t (taken xgemOf (readingBy syndromes flips 8 (value (take 8 s)))) short ≡ cond t (taken xgemOf (reading 64 (value (take 8 s)))) short
+      go true e = ap (taken xgemOf) (lent64 syndromes flips a b (value (take 8 s)) (fits (leb-true 8 (length s) e)))
       go false e = refl
 
 -- a header's PLI has fourteen bits

@@ -1,4 +1,5 @@
 pub mod Fragments
+pub mod Marks
 pub mod Frames
 pub mod Memory
 pub mod Walk

@@ -84,13 +84,12 @@ pub fn stretch_place(ports: Ports, own: PortId, payload: &[u8], k: usize) -> Str
     ensures { λ r. ⌜ r ≡ stretchOf own ports (now (payload .entry)) k ⌝ }
 {
     let syndromes = hec::syndromes::table();
-    let remainders = hec::remainders::table();
     let flips = hec::flips::table();
     let mut held = ports;
     let mut seek = Seek::Ahead(k);
     let mut at: usize = 0;
     loop {
-        let next = frames::next_frame(&syndromes, &remainders, &flips, &payload[at..]);
+        let next = frames::next_frame(&syndromes, &flips, &payload[at..]);
         match next {
             Next::Done => {
                 return settle(seek, false);

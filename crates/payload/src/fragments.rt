@@ -1,13 +1,17 @@
 // What a fragment does to the port that it is for. The decision is apart from the effect: it needs the ports alone.
 ghost use mathlib.Core.Path.{_≡_};
-ghost use Prim.Native.Nat.{_≤_, _<_};
-ghost use Rattle.station.specs.Limits.{slots};
-ghost use Rattle.station.specs.Lists.{Below};
-ghost use Rattle.payload.specs.Fragments.{slotOf, atSlot, effectOf, after};
+ghost use mathlib.Core.Bool.{cond};
+ghost use Prim.Native.Nat.{_+_, _≤_, _<_};
+ghost use Rattle.ids.specs.Ids.{samePort};
+ghost use Rattle.station.specs.Limits.{slots, addedPorts};
+ghost use Rattle.station.specs.Lists.{Below, placeFrom};
+ghost use Rattle.payload.specs.Fragments.{slotIn, atSlot, effectOf, after};
+ghost use Rattle.payload.specs.Marks.{marks};
 ghost use Rattle.payload.specs.Bounds.{Within};
 use ids::PortId;
 use station::held::Place;
 use station::limits::SLOT_BYTES;
+use station::slots::ADDED_PORTS;
 use station::slots::Ports;
 
 pub enum Effect {
@@ -20,11 +24,62 @@ pub enum Effect {
     Append(usize, usize),
 }
 
-pub(crate) fn slot_of(ports: Ports, own: PortId, port: PortId) -> Place
-    ensures { λ r. ⌜ (r ≡ slotOf ports own port) × (Below r slots) ⌝ }
+// The mark of a place in a sum: 256, and the place.
+fn mark(hit: bool, place: u16) -> u16
+    requires { ⌜ place < addedPorts ⌝ }
+    ensures { λ r. ⌜ (r ≡ cond hit (256 + place) 0) × (r ≤ 271) ⌝ }
+{
+    if hit { 256 + place } else { 0 }
+}
+
+// All sixteen ports are compared, without a branch: which port comes next is nothing to be guessed.
+fn marks_of(ids: [PortId; 16], id: PortId) -> u16
+    ensures { λ r. ⌜ r ≡ marks (samePort id) 0 ids ⌝ }
+{
+    let mut sum: u16 = 0;
+    let mut i: u16 = 0;
+    while i < 16 {
+        let place = i as usize;
+        let other = ids[place];
+        sum = sum + mark(id.is(other), i);
+        i += 1;
+    }
+    sum
+}
+
+fn first_place(ids: [PortId; 16], id: PortId) -> Place
+    ensures { λ r. ⌜ r ≡ placeFrom (samePort id) 0 ids ⌝ }
+{
+    let mut i: usize = 0;
+    while i < ADDED_PORTS {
+        let other = ids[i];
+        if id.is(other) {
+            return Place::At(i);
+        }
+        i += 1;
+    }
+    Place::Nowhere
+}
+
+// The ports that a station holds differ, so that a sum of two marks is met in no frame.
+fn place_in(ids: [PortId; 16], id: PortId) -> Place
+    ensures { λ r. ⌜ r ≡ placeFrom (samePort id) 0 ids ⌝ }
+{
+    let sum = marks_of(ids, id);
+    if sum < 256 {
+        return Place::Nowhere;
+    }
+    if sum < 512 {
+        return Place::At((sum - 256) as usize);
+    }
+    first_place(ids, id)
+}
+
+fn slot_in(ids: [PortId; 16], own: PortId, port: PortId) -> Place
+    ensures { λ r. ⌜ (r ≡ slotIn ids own port) × (Below r slots) ⌝ }
 {
     if port.is_assignable() {
-        let place = ports.place(port);
+        let place = place_in(ids, port);
         match place {
             Place::At(i) => Place::At(i + 1),
             Place::Nowhere => Place::Nowhere,
@@ -61,18 +116,37 @@ fn wide(x: u16) -> usize
     x as usize
 }
 
-pub(crate) fn effect_of(ports: Ports, own: PortId, port: PortId, last: bool, n: usize) -> Effect
+// The ports by their parts, which the walk keeps apart: what is changed by single elements is never copied whole.
+pub(crate) fn effect_in(
+    ids: [PortId; 16],
+    lengths: &[u16; 17],
+    waiting: &[bool; 17],
+    own: PortId,
+    port: PortId,
+    last: bool,
+    n: usize,
+) -> Effect
     requires { ⌜ n ≤ 65535 ⌝ }
-    ensures { λ r. ⌜ r ≡ effectOf ports own port last n ⌝ }
+    ensures { λ r. ⌜ r ≡ effectOf (record { ids = ids; lengths = now (lengths .entry); waiting = now (waiting .entry) }) own port last n ⌝ }
 {
     if n == 0 {
         return Effect::Nothing;
     }
-    let slot = slot_of(ports, own, port);
+    let slot = slot_in(ids, own, port);
     match slot {
-        Place::At(i) => at_slot(i, ports.waiting[i], wide(ports.lengths[i]), last, n),
+        Place::At(i) => at_slot(i, waiting[i], wide(lengths[i]), last, n),
         Place::Nowhere => Effect::Nothing,
     }
+}
+
+pub(crate) fn effect_of(ports: Ports, own: PortId, port: PortId, last: bool, n: usize) -> Effect
+    requires { ⌜ n ≤ 65535 ⌝ }
+    ensures { λ r. ⌜ r ≡ effectOf ports own port last n ⌝ }
+{
+    let ids = ports.ids;
+    let lengths = ports.lengths;
+    let waiting = ports.waiting;
+    effect_in(ids, &lengths, &waiting, own, port, last, n)
 }
 
 pub(crate) fn moved(ports: Ports, effect: Effect, n: usize) -> Ports

@@ -9,13 +9,6 @@ use super::fragments;
 use super::fragments::Effect;
 use ids::PortId;
 use station::limits::SLOT_BYTES;
-use station::slots::Ports;
-
-// How far the walk is, beside the two lent buffers.
-pub struct Progress {
-    pub ports: Ports,
-    pub bytes: usize,
-}
 
 // All of a slice into a place of another: its end from there is lent on.
 fn lay_at(target: &mut [u8], at: usize, s: &[u8])
@@ -45,51 +38,48 @@ fn deliver(target: &mut [u8], at: usize, port: PortId, part: &[u8], body: &[u8])
     lay_at(target, c, body);
 }
 
+// The ports come by their parts, of which single elements change; what is returned is how many bytes of deliveries there
+// are.
 pub(crate) fn take_frame(
+    ids: [PortId; 16],
     own: PortId,
-    p: Progress,
+    lengths: &mut [u16; 17],
+    waiting: &mut [bool; 17],
+    bytes: usize,
     memory: &mut [u8],
     deliveries: &mut [u8],
     port: PortId,
     last: bool,
     body: &[u8],
-) -> Progress
-    requires { ⌜ Ready (record { ports = p .ports; bytes = p .bytes; memory = now memory; deliveries = now deliveries }) (4 + length (now body)) ⌝ }
+) -> usize
+    requires { ⌜ Ready (record { ports = record { ids = ids; lengths = now lengths; waiting = now waiting }; bytes = bytes; memory = now memory; deliveries = now deliveries }) (4 + length (now body)) ⌝ }
     requires { ⌜ length (now body) ≤ 16383 ⌝ }
-    ensures { λ r. ⌜ record { ports = r .ports; bytes = r .bytes; memory = now (memory .exit); deliveries = now (deliveries .exit) } ≡ taken own (record { ports = p .ports; bytes = p .bytes; memory = now (memory .entry); deliveries = now (deliveries .entry) }) port last (now (body .entry)) ⌝ }
+    ensures { λ r. ⌜ record { ports = record { ids = ids; lengths = now (lengths .exit); waiting = now (waiting .exit) }; bytes = r; memory = now (memory .exit); deliveries = now (deliveries .exit) } ≡ taken own (record { ports = record { ids = ids; lengths = now (lengths .entry); waiting = now (waiting .entry) }; bytes = bytes; memory = now (memory .entry); deliveries = now (deliveries .entry) }) port last (now (body .entry)) ⌝ }
 {
     let n = body.len();
-    let bytes = p.bytes;
-    let ports = p.ports;
-    let effect = fragments::effect_of(ports, own, port, last, n);
-    let next = fragments::moved(ports, effect, n);
+    let effect = fragments::effect_in(ids, lengths, waiting, own, port, last, n);
     match effect {
-        Effect::Nothing => Progress {
-            ports: next,
-            bytes: bytes,
-        },
-        Effect::Discard(_, _) => Progress {
-            ports: next,
-            bytes: bytes,
-        },
+        Effect::Nothing => bytes,
+        Effect::Discard(slot, waits) => {
+            lengths[slot] = 0;
+            waiting[slot] = waits;
+            bytes
+        }
         Effect::Deliver(slot, have) => {
+            lengths[slot] = 0;
+            waiting[slot] = false;
             let from = slot * SLOT_BYTES;
             let to = from + have;
             deliver(deliveries, bytes, port, &memory[from..to], body);
-            Progress {
-                ports: next,
-                bytes: bytes + (4 + (have + n)),
-            }
+            bytes + (4 + (have + n))
         }
         Effect::Append(slot, have) => {
+            lengths[slot] = (have + n) as u16;
             let from = slot * SLOT_BYTES + have;
             let to = slot * SLOT_BYTES + SLOT_BYTES;
             // The slot's unused end, and nothing behind it, is lent for the append.
             bytes::copy(body, &mut memory[from..to]);
-            Progress {
-                ports: next,
-                bytes: bytes,
-            }
+            bytes
         }
     }
 }

@@ -2,14 +2,13 @@
 ghost use mathlib.Core.Path.{_≡_};
 ghost use Prim.Native.Nat.{_+_, _≤_};
 ghost use lib.ListN.{length};
-ghost use Rattle.hec.specs.Lent.{Syndromes, Remainders, Flips};
+ghost use Rattle.hec.specs.Lent.{Syndromes, Flips};
 ghost use Rattle.station.specs.Slots.{dropAll};
 ghost use Rattle.payload.specs.Bounds.{Ready};
 ghost use Rattle.payload.specs.Walk.{walkOf, allWithin, receiveOf};
 use super::frames;
 use super::frames::Next;
 use super::memory;
-use super::memory::Progress;
 use ids::PortId;
 use station::limits::SLOT_BYTES;
 use station::slots::Ports;
@@ -54,61 +53,74 @@ fn unfit(ports: Ports) -> Received
     }
 }
 
-fn lost(p: Progress) -> Received
-    ensures { λ r. ⌜ r ≡ record { ports = dropAll (p .ports); bytes = p .bytes; delineation = Delineation.Lost } ⌝ }
+fn lost(ports: Ports, bytes: usize) -> Received
+    ensures { λ r. ⌜ r ≡ record { ports = dropAll ports; bytes = bytes; delineation = Delineation.Lost } ⌝ }
 {
-    let ports = p.ports;
     let dropped = ports.drop_all();
     Received {
         ports: dropped,
-        bytes: p.bytes,
+        bytes: bytes,
         delineation: Delineation::Lost,
     }
 }
 
-fn kept(p: Progress) -> Received
-    ensures { λ r. ⌜ r ≡ record { ports = p .ports; bytes = p .bytes; delineation = Delineation.Kept } ⌝ }
+fn kept(ports: Ports, bytes: usize) -> Received
+    ensures { λ r. ⌜ r ≡ record { ports = ports; bytes = bytes; delineation = Delineation.Kept } ⌝ }
 {
-    let ports = p.ports;
     Received {
         ports: ports,
-        bytes: p.bytes,
+        bytes: bytes,
         delineation: Delineation::Kept,
     }
 }
 
+fn together(ids: [PortId; 16], lengths: [u16; 17], waiting: [bool; 17]) -> Ports
+    ensures { λ r. ⌜ r ≡ record { ids = ids; lengths = lengths; waiting = waiting } ⌝ }
+{
+    Ports {
+        ids: ids,
+        lengths: lengths,
+        waiting: waiting,
+    }
+}
+
 fn walk_frames(
+    ports: Ports,
     own: PortId,
-    p: Progress,
     memory: &mut [u8],
     deliveries: &mut [u8],
     place: usize,
     payload: &[u8],
 ) -> Received
-    requires { ⌜ Ready (record { ports = p .ports; bytes = p .bytes; memory = now memory; deliveries = now deliveries }) (length (now payload)) ⌝ }
-    ensures { λ r. ⌜ record { receiver = record { ports = r .ports; bytes = r .bytes; memory = now (memory .exit); deliveries = now (deliveries .exit) }; delineation = r .delineation } ≡ walkOf own (record { ports = p .ports; bytes = p .bytes; memory = now (memory .entry); deliveries = now (deliveries .entry) }) place (now (payload .entry)) ⌝ }
+    requires { ⌜ Ready (record { ports = ports; bytes = 0; memory = now memory; deliveries = now deliveries }) (length (now payload)) ⌝ }
+    ensures { λ r. ⌜ record { receiver = record { ports = r .ports; bytes = r .bytes; memory = now (memory .exit); deliveries = now (deliveries .exit) }; delineation = r .delineation } ≡ walkOf own (record { ports = ports; bytes = 0; memory = now (memory .entry); deliveries = now (deliveries .entry) }) place (now (payload .entry)) ⌝ }
 {
     let syndromes = hec::syndromes::table();
-    let remainders = hec::remainders::table();
     let flips = hec::flips::table();
-    let mut progress = p;
+    let ids = ports.ids;
+    let mut lengths = ports.lengths;
+    let mut waiting = ports.waiting;
+    let mut bytes: usize = 0;
     let mut at: usize = 0;
     loop {
-        let next = frames::next_frame(&syndromes, &remainders, &flips, &payload[at..]);
+        let next = frames::next_frame(&syndromes, &flips, &payload[at..]);
         match next {
             Next::Done => {
-                return kept(progress);
+                return kept(together(ids, lengths, waiting), bytes);
             }
             Next::Lost => {
-                return lost(progress);
+                return lost(together(ids, lengths, waiting), bytes);
             }
             Next::Frame(x) => {
                 let body = at + 8;
                 let end = body + x.pli as usize;
                 let port = x.port;
-                progress = memory::take_frame(
+                bytes = memory::take_frame(
+                    ids,
                     own,
-                    progress,
+                    &mut lengths,
+                    &mut waiting,
+                    bytes,
                     memory,
                     deliveries,
                     port,
@@ -145,9 +157,5 @@ pub fn receive(
     if deliveries.len() - MEMORY_BYTES < payload.len() {
         return unfit(ports);
     }
-    let start = Progress {
-        ports: ports,
-        bytes: 0,
-    };
-    walk_frames(own, start, memory, deliveries, place, payload)
+    walk_frames(ports, own, memory, deliveries, place, payload)
 }

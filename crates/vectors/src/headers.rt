@@ -179,17 +179,11 @@ fn outcome32(r: Reading32) -> Outcome {
 }
 
 // A word of 64 bits, or a short one of 32, as the lent tables read it.
-fn read(
-    syndromes: &[u16; 2048],
-    remainders: &[u16; 63],
-    flips: &[u16; 4096],
-    short: bool,
-    word: u64,
-) -> Outcome {
+fn read(syndromes: &[u16; 2048], flips: &[u16; 4096], short: bool, word: u64) -> Outcome {
     if short {
-        outcome32(hec::read32_by(syndromes, remainders, flips, (word % 0x1_0000_0000) as u32))
+        outcome32(hec::read32_by(syndromes, flips, (word % 0x1_0000_0000) as u32))
     } else {
-        outcome64(hec::read64_by(syndromes, remainders, flips, word))
+        outcome64(hec::read64_by(syndromes, flips, word))
     }
 }
 
@@ -203,7 +197,6 @@ fn is_wanted(found: Outcome, mended: bool, wanted: u64) -> bool {
 // How many of the words with one of the lowest bits flipped read as wanted, or are unreadable if it is not to be mended.
 fn one_flip(
     syndromes: &[u16; 2048],
-    remainders: &[u16; 63],
     flips: &[u16; 4096],
     bits: u32,
     mended: bool,
@@ -217,7 +210,7 @@ fn one_flip(
     let mut at: u32 = 0;
     while at < below {
         let flip: u64 = 1 << at;
-        let found = read(syndromes, remainders, flips, bits == 32, word ^ flip);
+        let found = read(syndromes, flips, bits == 32, word ^ flip);
         right = counted(right, one_if(is_wanted(found, mended, wanted)));
         at += 1;
     }
@@ -226,7 +219,6 @@ fn one_flip(
 
 fn two_flips(
     syndromes: &[u16; 2048],
-    remainders: &[u16; 63],
     flips: &[u16; 4096],
     bits: u32,
     mended: bool,
@@ -242,16 +234,7 @@ fn two_flips(
         let flip: u64 = 1 << at;
         right = counted(
             right,
-            one_flip(
-                syndromes,
-                remainders,
-                flips,
-                bits,
-                mended,
-                wanted,
-                word ^ flip,
-                at,
-            ),
+            one_flip(syndromes, flips, bits, mended, wanted, word ^ flip, at),
         );
         at += 1;
     }
@@ -260,7 +243,6 @@ fn two_flips(
 
 fn three_flips(
     syndromes: &[u16; 2048],
-    remainders: &[u16; 63],
     flips: &[u16; 4096],
     bits: u32,
     wanted: u64,
@@ -274,16 +256,7 @@ fn three_flips(
         let flip: u64 = 1 << at;
         right = counted(
             right,
-            two_flips(
-                syndromes,
-                remainders,
-                flips,
-                bits,
-                false,
-                wanted,
-                word ^ flip,
-                at,
-            ),
+            two_flips(syndromes, flips, bits, false, wanted, word ^ flip, at),
         );
         at += 1;
     }
@@ -314,9 +287,8 @@ struct Counts {
 
 fn stands(mut c: Counts, bits: u32, word: u64, written: u64) -> Counts {
     let syndromes = hec::syndromes::table();
-    let remainders = hec::remainders::table();
     let flips = hec::flips::table();
-    let found = read(&syndromes, &remainders, &flips, bits == 32, word);
+    let found = read(&syndromes, &flips, bits == 32, word);
     c.read = counted(c.read, one_if(is_wanted(found, true, word)));
     c.written = counted(c.written, one_if(written == word));
     c
@@ -326,11 +298,10 @@ fn flipped(mut c: Counts, bits: u32, word: u64) -> Counts
     requires { ⌜ bits ≤ 64 ⌝ }
 {
     let s = hec::syndromes::table();
-    let r = hec::remainders::table();
     let f = hec::flips::table();
-    let one = one_flip(&s, &r, &f, bits, true, word, word, bits);
-    let two = two_flips(&s, &r, &f, bits, true, word, word, bits);
-    let three = three_flips(&s, &r, &f, bits, word, word);
+    let one = one_flip(&s, &f, bits, true, word, word, bits);
+    let two = two_flips(&s, &f, bits, true, word, word, bits);
+    let three = three_flips(&s, &f, bits, word, word);
     c.one = counted(c.one, one);
     c.two = counted(c.two, two);
     c.three = counted(c.three, three);
@@ -408,7 +379,7 @@ fn unsent_at(
     let mut k: usize = 0;
     while k < 31 {
         let word = with_syndrome(above ^ remainders[k]);
-        let found = read(syndromes, remainders, flips, true, word);
+        let found = read(syndromes, flips, true, word);
         right = counted(right, one_if(is_wanted(found, false, 0)));
         k += 1;
     }

@@ -1,6 +1,7 @@
 -- `activation::receive_each` meets its contract.
 -- Assumes nothing.
-use mathlib.Core.Path.{_≡_, _∙_, refl, ap}
+use mathlib.Core.Path.{_≡_, _∙_, refl, sym, ap}
+use mathlib.Core.Logic.{⊎-elim}
 use native.Mathlib.Omega.{arith}
 use native.Mathlib.Nat.{sub-zero}
 use Prim.Native.Nat.{_<_, _^_, ℕ, _+_, _-_, _*_, _/_, _≤_}
@@ -8,7 +9,9 @@ use denote.Ref.{now}
 use lib.ListN.{length, take, drop}
 use borrow.Author.Needs.{needs}
 use Rattle.activation.specs.Receiving.{messagesFrom, receivedBy, receivedEachBy, receivedAllBy}
+use Rattle.effects.specs.Changes.{applied}
 use Rattle.activation.proofs.Receiving.{each-turn, each-end}
+use Rattle.activation.proofs.Asking.{stays, delays}
 use Rattle.activation.proofs.receive_each.Statement.{statement}
 use Rattle.activation.proofs.receive_each.Tie as tie
 
@@ -27,22 +30,46 @@ mul-at c = search needs
 add-end : tie.Need-add-end Inv-loop μ-loop
 add-end c = search needs
 
-sub-receive : tie.Need-sub-receive Inv-loop μ-loop
-sub-receive c = search needs
+sub-considered : tie.Need-sub-considered Inv-loop μ-loop
+sub-considered c = search needs
 
-part-receive-start : tie.Need-part-receive-start Inv-loop μ-loop
-part-receive-start c = search needs
+part-considered-start : tie.Need-part-considered-start Inv-loop μ-loop
+part-considered-start c = search needs
 
-part-receive-end : tie.Need-part-receive-end Inv-loop μ-loop
-part-receive-end c = search needs
+part-considered-end : tie.Need-part-considered-end Inv-loop μ-loop
+part-considered-end c = search needs
 
-receive-requires : tie.Need-receive-requires Inv-loop μ-loop
-receive-requires c κs = search needs
+considered-requires : tie.Need-considered-requires Inv-loop μ-loop
+considered-requires c κs = search needs
+
+asked-by-requires : tie.Need-asked-by-requires Inv-loop μ-loop
+asked-by-requires c κs = search needs
+
+enum-told : tie.Need-enum-told Inv-loop μ-loop
+enum-told c = search needs
+
+enum-known-delay : tie.Need-enum-known-delay Inv-loop μ-loop
+enum-known-delay c = search needs
+
+enum-told-2 : tie.Need-enum-told-2 Inv-loop μ-loop
+enum-told-2 c = search needs
+
+apply-requires : tie.Need-apply-requires Inv-loop μ-loop
+apply-requires c κs = search needs
+
+-- whichever way the effect is applied, it is
+settled : (c : tie.At-match-came Inv-loop μ-loop) → c .match .next ≡ applied (c .before .before .before .before .before .loop .next) (c .before .before .considered .result)
+settled c =
+    let s = c .before .before .before .before .before .loop .next in
+    let e = c .before .before .considered .result in
+    let a = c .before .asked-by .ensures in
+    ⊎-elim (λ v. v .2 ∙ sym (stays s e (sym a ∙ v .1 .given .1)))
+    (⊎-elim (λ v. v .4 ∙ sym (delays s e (v .1 .given .0 .0) (sym a ∙ v .1 .given .1))) (λ v. v .3 ∙ v .2 .ensures)) (c .match .came)
 
 add-i : tie.Need-add-i Inv-loop μ-loop
 add-i c =
-    let h = c .before .before .loop-test .taken in
-    let k = c .before .before .before .loop .inv .3 in
+    let h = c .before .before .before .before .loop-test .taken in
+    let k = c .before .before .before .before .before .loop .inv .3 in
     record { fits = omega arith }
 
 loop-less : tie.Need-loop-less Inv-loop μ-loop
@@ -50,11 +77,11 @@ loop-less c = search needs
 
 loop-again : tie.Need-loop-again Inv-loop μ-loop
 loop-again c =
-    let a = c .before .before .before .before .before .args in
-    let l = c .before .before .before .loop in
+    let a = c .before .before .before .before .before .before .before .args in
+    let l = c .before .before .before .before .before .loop in
     let e : 48 * l .i + 48 - 48 * l .i ≡ 48 = omega arith in
-    let r = c .receive .ensures ∙ ap (λ (k : ℕ). receivedBy (now (a .t)) (a .usual) (a .installed) (l .next) (take k (drop (48 * l .i) (now (a .messages))))) e in
-    (l .inv .0, omega arith, each-turn (now (a .t)) (a .usual) (a .installed) (now (a .messages)) _ (l .i) (l .next) _ (c .before .before .loop-test .taken) r ∙ l .inv .2, l .inv .3)
+    let r = settled c ∙ c .before .before .considered .ensures ∙ ap (λ (k : ℕ). receivedBy (now (a .t)) (a .usual) (a .installed) (l .next) (take k (drop (48 * l .i) (now (a .messages))))) e in
+    (l .inv .0, omega arith, each-turn (now (a .t)) (a .usual) (a .installed) (now (a .messages)) _ (l .i) (l .next) _ (c .before .before .before .before .loop-test .taken) r ∙ l .inv .2, l .inv .3)
 
 returns : tie.Need-returns Inv-loop μ-loop
 returns c =
@@ -71,10 +98,15 @@ receive-each-spec =
     loop-holds
     mul-at
     add-end
-    sub-receive
-    part-receive-start
-    part-receive-end
-    receive-requires
+    sub-considered
+    part-considered-start
+    part-considered-end
+    considered-requires
+    asked-by-requires
+    enum-told
+    enum-known-delay
+    enum-told-2
+    apply-requires
     add-i
     loop-less
     loop-again

@@ -14,20 +14,17 @@ use Rattle.bench_exports.proofs.bench_read64.Statement.{statement}
 use Rattle.bench_exports.proofs.bench_read64.Tie as tie
 
 abbrev Inv-loop : tie.InvT-loop
-Inv-loop words syndromes remainders flips sum₀ i₀ sum i =
+Inv-loop words syndromes flips sum₀ i₀ sum i =
     (i ≤ length words) × (bitXor sum (readSum 64 (drop i words)) ≡ readSum 64 words)
 
 abbrev μ-loop : tie.MeasureT-loop
-μ-loop words syndromes remainders flips sum₀ i₀ sum i = length words - i
+μ-loop words syndromes flips sum₀ i₀ sum i = length words - i
 
 table-requires : tie.Need-table-requires Inv-loop μ-loop
 table-requires c κs = search needs
 
 table-requires-2 : tie.Need-table-requires-2 Inv-loop μ-loop
 table-requires-2 c κs = search needs
-
-table-requires-3 : tie.Need-table-requires-3 Inv-loop μ-loop
-table-requires-3 c κs = search needs
 
 loop-holds : tie.Need-loop-holds Inv-loop μ-loop
 loop-holds c = (omega arith, refl)
@@ -52,17 +49,16 @@ loop-less c = search needs
 
 loop-again : tie.Need-loop-again Inv-loop μ-loop
 loop-again c =
-    let words = now (c .before .before .before .before .before .before .before .before .before .before .before .before .args .words) in
-    let l = c .before .before .before .before .before .before .before .loop in
-    let t1 = c .before .before .before .before .before .before .before .before .before .before in
-    let t2 = c .before .before .before .before .before .before .before .before .before in
-    let t3 = c .before .before .before .before .before .before .before .before in
+    let words = now (c .before .before .before .before .before .before .before .before .before .before .args .words) in
+    let l = c .before .before .before .before .before .before .loop in
+    let t1 = c .before .before .before .before .before .before .before .before in
+    let t2 = c .before .before .before .before .before .before .before in
     let w = getD words (l .i) 0 in
-    let read = c .before .read64-by .ensures ∙ lent64 (t1 .table .result) (t2 .table2 .result) (t3 .table3 .result) (t1 .table .ensures) (t2 .table2 .ensures) (t3 .table3 .ensures) w (omega (arith, c .before .before .shared-slice-known2 .given (l .i))) in
+    let read = c .before .read64-by .ensures ∙ lent64 (t1 .table .result) (t2 .table2 .result) (t1 .table .ensures) (t2 .table2 .ensures) w (omega (arith, c .before .before .shared-slice-known2 .given (l .i))) in
     (omega arith, more 64 words (l .i) (l .sum) (l .inv .1) _ (omega arith) (c .value64 .ensures ∙ ap valueOf read))
 
 returns : tie.Need-returns Inv-loop μ-loop
-returns c = all 64 (now (c .before .before .before .before .before .before .args .words)) (c .before .loop .i) (c .before .loop .sum) (c .before .loop .inv .1) (omega arith)
+returns c = all 64 (now (c .before .before .before .before .before .args .words)) (c .before .loop .i) (c .before .loop .sum) (c .before .loop .inv .1) (omega arith)
 
 pub bench-read64-spec : {M : Type 1} → statement M
 bench-read64-spec =
@@ -72,7 +68,6 @@ bench-read64-spec =
     μ-loop
     table-requires
     table-requires-2
-    table-requires-3
     loop-holds
     mul-read64-by
     shared-slice-read-read64-by

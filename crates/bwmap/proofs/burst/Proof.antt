@@ -46,17 +46,17 @@ write-series-requires c κs =
     let t = planned-facts _ _ _ _ (sym (c .before .before .before .is-planned .ensures ∙ ap isPlanned (c .before .before .before .before .judge .ensures)) ∙ not-false _ (c .before .before .if1 .left)) in
     (c .before .before .before .before .before .before .before .before .before .before .before .pre .0, omega (arith, c .before .before .before .before .before .before .before .before .before .before .before .pre .1), omega (arith, t, s .room, c .before .before .before .before .before .before .before .before .before .before .before .pre .3))
 
-add-t23 : tie.Need-add-t23
-add-t23 c = search needs
+add-t22 : tie.Need-add-t22
+add-t22 c = search needs
 
-add-t24 : tie.Need-add-t24
-add-t24 c =
+add-t23 : tie.Need-add-t23
+add-t23 c =
     let s = c .before .before .before .before .before .before .before .before .before .before .before .before .before .before .before .before .pre .4 in
     let t = planned-facts _ _ _ _ (sym (c .before .before .before .before .before .before .before .before .is-planned .ensures ∙ ap isPlanned (c .before .before .before .before .before .before .before .before .before .judge .ensures)) ∙ not-false _ (c .before .before .before .before .before .before .before .if1 .left)) in
     omega (arith, t, s .few, s .room, s .sent, c .before .before .before .before .before .before .before .before .before .before .before .before .before .run-from .ensures, c .before .before .before .before .before .before .before .before .before .before .before .before .before .before .before .before .pre .1, c .before .before .before .before .before .before .before .before .before .before .long .ensures)
 
-add-t25 : tie.Need-add-t25
-add-t25 c =
+add-t24 : tie.Need-add-t24
+add-t24 c =
     let s = c .before .before .before .before .before .before .before .before .before .before .before .before .before .before .before .before .before .pre .4 in
     let t = planned-facts _ _ _ _ (sym (c .before .before .before .before .before .before .before .before .before .is-planned .ensures ∙ ap isPlanned (c .before .before .before .before .before .before .before .before .before .before .judge .ensures)) ∙ not-false _ (c .before .before .before .before .before .before .before .before .if1 .left)) in
     omega (arith, t, s .few, s .room, s .sent, c .before .before .before .before .before .before .before .before .before .before .before .before .before .before .run-from .ensures, c .before .before .before .before .before .before .before .before .before .before .before .before .before .before .before .before .before .pre .1, c .before .before .before .before .before .before .before .before .before .before .before .long .ensures)
@@ -64,14 +64,14 @@ add-t25 c =
 mark-requires : tie.Need-mark-requires
 mark-requires c κs = search needs
 
-add-t27 : tie.Need-add-t27
-add-t27 c =
+add-t26 : tie.Need-add-t26
+add-t26 c =
     let s = c .before .before .before .before .before .before .before .before .before .before .before .before .before .before .before .before .before .before .before .pre .4 in
     let t = planned-facts _ _ _ _ (sym (c .before .before .before .before .before .before .before .before .before .before .before .is-planned .ensures ∙ ap isPlanned (c .before .before .before .before .before .before .before .before .before .before .before .before .judge .ensures)) ∙ not-false _ (c .before .before .before .before .before .before .before .before .before .before .if1 .left)) in
     omega (arith, t, s .few, s .room, s .sent, c .before .before .before .before .before .before .before .before .before .before .before .before .before .before .before .before .run-from .ensures, c .before .before .before .before .before .before .before .before .before .before .before .before .before .before .before .before .before .before .before .pre .1, c .before .before .before .before .before .before .before .before .before .before .before .before .before .long .ensures)
 
-add-t28 : tie.Need-add-t28
-add-t28 c =
+add-t27 : tie.Need-add-t27
+add-t27 c =
     let s = c .before .before .before .before .before .before .before .before .before .before .before .before .before .before .before .before .before .before .before .pre .4 in
     let t = planned-facts _ _ _ _ (sym (c .before .before .before .before .before .before .before .before .before .before .before .is-planned .ensures ∙ ap isPlanned (c .before .before .before .before .before .before .before .before .before .before .before .before .judge .ensures)) ∙ not-false _ (c .before .before .before .before .before .before .before .before .before .before .if1 .left)) in
     omega (arith, t, s .few, s .room, s .sent, c .before .before .before .before .before .before .before .before .before .before .before .before .before .before .before .before .run-from .ensures, c .before .before .before .before .before .before .before .before .before .before .before .before .before .before .before .before .before .before .before .pre .1, c .before .before .before .before .before .before .before .before .before .before .before .before .before .long .ensures)
@@ -101,11 +101,11 @@ burst-spec =
     returns
     mul-place
     write-series-requires
+    add-t22
     add-t23
     add-t24
-    add-t25
     mark-requires
+    add-t26
     add-t27
-    add-t28
     same-length
     returns-2)

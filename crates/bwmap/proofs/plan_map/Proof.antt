@@ -34,11 +34,8 @@ table-requires c κs = search needs
 table-requires-2 : tie.Need-table-requires-2
 table-requires-2 c κs = search needs
 
-table-requires-3 : tie.Need-table-requires-3
-table-requires-3 c κs = search needs
-
 walk-map-requires : tie.Need-walk-map-requires
-walk-map-requires c κs = (record { octets = c .before .before .before .before .before .before .table .ensures; places = c .before .before .before .before .before .table2 .ensures; repairs = c .before .before .before .before .table3 .ensures }, c .before .before .before .before .before .before .before .before .before .if1 .left)
+walk-map-requires c κs = (record { octets = c .before .before .before .before .table .ensures; repairs = c .before .before .before .table2 .ensures }, c .before .before .before .before .before .before .before .if1 .left)
 
 carried-over-requires-2 : tie.Need-carried-over-requires-2
 carried-over-requires-2 c κs = c .before .before .walk-map .ensures .0 .low
@@ -48,9 +45,9 @@ same-length c = search needs
 
 returns-3 : tie.Need-returns-3
 returns-3 c =
-    let a = c .before .before .before .before .before .before .before .before .before .before .before .before .before .before .before .before .args in
-    rw (le-leb _ _ (c .before .before .before .before .before .before .before .before .before .before .before .before .before .if1 .left))
-    (finish (now (a .plan)) _ (c .before .before .before .walk-map .result) (a .carried) (c .carried-over2 .result) (plannedOf (a .own) (now (a .map)) (a .carried)) (c .before .before .before .walk-map .ensures .0) (c .before .before .before .before .before .before .before .before .before .before .before .before .before .if1 .left) (c .before .before .before .walk-map .ensures .1 ∙ from-start (a .own) (now (a .map)) (now (a .plan)) (a .carried)) (c .carried-over2 .ensures))
+    let a = c .before .before .before .before .before .before .before .before .before .before .before .before .before .before .args in
+    rw (le-leb _ _ (c .before .before .before .before .before .before .before .before .before .before .before .if1 .left))
+    (finish (now (a .plan)) _ (c .before .before .before .walk-map .result) (a .carried) (c .carried-over2 .result) (plannedOf (a .own) (now (a .map)) (a .carried)) (c .before .before .before .walk-map .ensures .0) (c .before .before .before .before .before .before .before .before .before .before .before .if1 .left) (c .before .before .before .walk-map .ensures .1 ∙ from-start (a .own) (now (a .map)) (now (a .plan)) (a .carried)) (c .carried-over2 .ensures))
 
 pub plan-map-spec : {M : Type 1} → statement M
 plan-map-spec =
@@ -63,7 +60,6 @@ plan-map-spec =
     returns-2
     table-requires
     table-requires-2
-    table-requires-3
     walk-map-requires
     carried-over-requires-2
     same-length

@@ -13,10 +13,10 @@ use Rattle.bwmap.proofs.walk_map.Statement.{statement}
 use Rattle.bwmap.proofs.walk_map.Tie as tie
 
 abbrev Inv-loop : tie.InvT-loop
-Inv-loop syndromes remainders flips map own carried plan₀ w₀ n plan w = Small w × (length plan ≡ length plan₀) × (toCome own map plan w ≡ toCome own map plan₀ (starting carried))
+Inv-loop syndromes flips map own carried plan₀ w₀ n plan w = Small w × (length plan ≡ length plan₀) × (toCome own map plan w ≡ toCome own map plan₀ (starting carried))
 
 abbrev μ-loop : tie.MeasureT-loop
-μ-loop syndromes remainders flips map own carried plan₀ w₀ n plan w = entryCount map - w .at
+μ-loop syndromes flips map own carried plan₀ w₀ n plan w = entryCount map - w .at
 
 long-requires : tie.Need-long-requires Inv-loop μ-loop
 long-requires c κs = search needs
@@ -37,7 +37,7 @@ loop-less : tie.Need-loop-less Inv-loop μ-loop
 loop-less c = omega (arith, c .before .before .turn .ensures .1, c .before .before .turn .ensures .2)
 
 loop-again : tie.Need-loop-again Inv-loop μ-loop
-loop-again c = (c .before .before .turn .ensures .0, c .before .before .turn .kept .1 .1 .1 .1 .1 .1 .0 ∙ c .before .before .before .before .before .before .before .before .loop .inv .1, c .before .before .turn .ensures .3 ∙ c .before .before .before .before .before .before .before .before .loop .inv .2)
+loop-again c = (c .before .before .turn .ensures .0, c .before .before .turn .kept .1 .1 .1 .1 .1 .0 ∙ c .before .before .before .before .before .before .before .before .loop .inv .1, c .before .before .turn .ensures .3 ∙ c .before .before .before .before .before .before .before .before .loop .inv .2)
 
 same-length-2 : tie.Need-same-length-2 Inv-loop μ-loop
 same-length-2 c = c .before .before .loop .inv .1

@@ -15,7 +15,7 @@ returns : tie.Need-returns
 returns c =
     let a = c .before .before .args in
     sent-word _ _
-    (clean (now (a .syndromes)) (now (a .remainders)) (now (a .flips)) 4 (a .word) _ (c .before .syndrome32 .ensures) (c .if1 .taken)) (search needs)
+    (clean (now (a .syndromes)) (now (a .flips)) 4 (a .word) _ (c .before .syndrome32 .ensures) (c .if1 .taken)) (search needs)
 
 mend-requires : tie.Need-mend-requires
 mend-requires c κs = search needs
@@ -23,8 +23,8 @@ mend-requires c κs = search needs
 enum-known-mend : tie.Need-enum-known-mend
 enum-known-mend c = search needs
 
-cast-t14 : tie.Need-cast-t14
-cast-t14 c = search needs
+cast-t13 : tie.Need-cast-t13
+cast-t13 c = search needs
 
 enum-told : tie.Need-enum-told
 enum-told c = search needs
@@ -33,7 +33,7 @@ returns-2 : tie.Need-returns-2
 returns-2 c =
     let a = c .before .before .before .before .before .before .before .args in
     sent-word _ _
-    (damaged (now (a .syndromes)) (now (a .remainders)) (now (a .flips)) 4 (a .word) _ (c .before .before .before .before .before .before .syndrome32 .ensures) _ (c .before .before .before .before .before .if1 .left)
+    (damaged (now (a .syndromes)) (now (a .flips)) 4 (a .word) _ (c .before .before .before .before .before .before .syndrome32 .ensures) _ (c .before .before .before .before .before .if1 .left)
     (ap foundMended (sym (c .before .before .mend2 .given .1)) ∙ c .before .before .before .before .mend .ensures))
     (c .if2 .taken)
 
@@ -41,7 +41,7 @@ returns-3 : tie.Need-returns-3
 returns-3 c =
     let a = c .before .before .before .before .before .before .before .args in
     not-sent _ _
-    (damaged (now (a .syndromes)) (now (a .remainders)) (now (a .flips)) 4 (a .word) _ (c .before .before .before .before .before .before .syndrome32 .ensures) _ (c .before .before .before .before .before .if1 .left)
+    (damaged (now (a .syndromes)) (now (a .flips)) 4 (a .word) _ (c .before .before .before .before .before .before .syndrome32 .ensures) _ (c .before .before .before .before .before .if1 .left)
     (ap foundMended (sym (c .before .before .mend2 .given .1)) ∙ c .before .before .before .before .mend .ensures))
     (c .if2 .left)
 
@@ -49,7 +49,7 @@ returns-4 : tie.Need-returns-4
 returns-4 c =
     let a = c .before .before .before .before .before .args in
     ap sent
-    (damaged (now (a .syndromes)) (now (a .remainders)) (now (a .flips)) 4 (a .word) _ (c .before .before .before .before .syndrome32 .ensures) _ (c .before .before .before .if1 .left)
+    (damaged (now (a .syndromes)) (now (a .flips)) 4 (a .word) _ (c .before .before .before .before .syndrome32 .ensures) _ (c .before .before .before .if1 .left)
     (ap foundMended (sym (c .enum-told .given .1)) ∙ c .before .before .mend .ensures))
 
 pub read32-by-spec : {M : Type 1} → statement M
@@ -60,7 +60,7 @@ read32-by-spec =
     returns
     mend-requires
     enum-known-mend
-    cast-t14
+    cast-t13
     enum-told
     returns-2
     returns-3

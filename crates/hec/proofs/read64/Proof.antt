@@ -11,22 +11,18 @@ table-requires c κs = search needs
 table-requires-2 : tie.Need-table-requires-2
 table-requires-2 c κs = search needs
 
-table-requires-3 : tie.Need-table-requires-3
-table-requires-3 c κs = search needs
-
 read64-by-requires : tie.Need-read64-by-requires
 read64-by-requires c κs = search needs
 
 returns : tie.Need-returns
 returns c =
-    let a = c .before .before .before .before .before .before in
-    let b = c .before .before .before .before .before in
-    let d = c .before .before .before .before in
+    let a = c .before .before .before .before in
+    let b = c .before .before .before in
     rw (c .read64-by .ensures)
-    (lent-reads64 (a .table .result) (b .table2 .result) (d .table3 .result) (a .table .ensures) (b .table2 .ensures) (d .table3 .ensures)
+    (lent-reads64 (a .table .result) (b .table2 .result) (a .table .ensures) (b .table2 .ensures)
     (a .before .args .word) (search needs))
 
 pub read64-spec : {M : Type 1} → statement M
 read64-spec =
     tie.close
-    (tie.spec table-requires table-requires-2 table-requires-3 read64-by-requires returns)
+    (tie.spec table-requires table-requires-2 read64-by-requires returns)

@@ -14,7 +14,7 @@ syndrome64-requires c κs = search needs
 returns : tie.Need-returns
 returns c =
     let a = c .before .before .args in
-    clean (now (a .syndromes)) (now (a .remainders)) (now (a .flips)) 8 (a .word) _ (c .before .syndrome64 .ensures) (c .if1 .taken)
+    clean (now (a .syndromes)) (now (a .flips)) 8 (a .word) _ (c .before .syndrome64 .ensures) (c .if1 .taken)
 
 mend-requires : tie.Need-mend-requires
 mend-requires c κs = search needs
@@ -28,13 +28,13 @@ enum-told c = search needs
 returns-2 : tie.Need-returns-2
 returns-2 c =
     let a = c .before .before .before .before .before .before .args in
-    damaged (now (a .syndromes)) (now (a .remainders)) (now (a .flips)) 8 (a .word) _ (c .before .before .before .before .before .syndrome64 .ensures) _ (c .before .before .before .before .if1 .left)
+    damaged (now (a .syndromes)) (now (a .flips)) 8 (a .word) _ (c .before .before .before .before .before .syndrome64 .ensures) _ (c .before .before .before .before .if1 .left)
     (ap foundMended (sym (c .before .mend2 .given .1)) ∙ c .before .before .before .mend .ensures)
 
 returns-3 : tie.Need-returns-3
 returns-3 c =
     let a = c .before .before .before .before .before .args in
-    damaged (now (a .syndromes)) (now (a .remainders)) (now (a .flips)) 8 (a .word) _ (c .before .before .before .before .syndrome64 .ensures) _ (c .before .before .before .if1 .left)
+    damaged (now (a .syndromes)) (now (a .flips)) 8 (a .word) _ (c .before .before .before .before .syndrome64 .ensures) _ (c .before .before .before .if1 .left)
     (ap foundMended (sym (c .enum-told .given .1)) ∙ c .before .before .mend .ensures)
 
 pub read64-by-spec : {M : Type 1} → statement M

@@ -16,10 +16,10 @@ use Rattle.bwmap.proofs.records.write_more.Statement.{statement}
 use Rattle.bwmap.proofs.records.write_more.Tie as tie
 
 abbrev Inv-loop : tie.InvT-loop
-Inv-loop syndromes remainders flips map own from h plan₀ at n k₀ plan k = (k ≤ 15) × (length plan ≡ length plan₀) × (sets plan (at + 4 * k) (moreNumbers h (run (15 - k) (rest own map (from + k)))) ≡ sets plan₀ at (moreNumbers h (run 15 (rest own map from))))
+Inv-loop syndromes flips map own from h plan₀ at n k₀ plan k = (k ≤ 15) × (length plan ≡ length plan₀) × (sets plan (at + 4 * k) (moreNumbers h (run (15 - k) (rest own map (from + k)))) ≡ sets plan₀ at (moreNumbers h (run 15 (rest own map from))))
 
 abbrev μ-loop : tie.MeasureT-loop
-μ-loop syndromes remainders flips map own from h plan₀ at n k₀ plan k = 15 - k
+μ-loop syndromes flips map own from h plan₀ at n k₀ plan k = 15 - k
 
 loop-holds : tie.Need-loop-holds Inv-loop μ-loop
 loop-holds c = (search needs, refl, rw (add-zero (c .before .before .args .at), add-zero (c .before .before .args .from)))

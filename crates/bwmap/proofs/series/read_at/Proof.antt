@@ -27,7 +27,7 @@ standing-by-requires c κs = search needs
 returns : tie.Need-returns
 returns c =
     let a = c .before .before .before .args in
-    c .standing-by .ensures ∙ ap (standing (a .own)) (read-entry (now (a .syndromes)) (now (a .remainders)) (now (a .flips)) (now (a .map)) (c .before .before .before .pre .0) (λ k. omega (arith, c .before .before .shared-slice-known .given k)) (a .i))
+    c .standing-by .ensures ∙ ap (standing (a .own)) (read-entry (now (a .syndromes)) (now (a .flips)) (now (a .map)) (c .before .before .before .pre .0) (λ k. omega (arith, c .before .before .shared-slice-known .given k)) (a .i))
 
 pub read-at-spec : {M : Type 1} → statement M
 read-at-spec =

@@ -13,10 +13,10 @@ use Rattle.bwmap.proofs.series.run_from.Statement.{statement}
 use Rattle.bwmap.proofs.series.run_from.Tie as tie
 
 abbrev Inv-loop : tie.InvT-loop
-Inv-loop syndromes remainders flips map own from n k₀ grants₀ k grants = (k ≤ 15) × (grants ≤ 65535 * k) × (tally k grants (run (15 - k) (rest own map (from + k))) ≡ tally 0 0 (run 15 (rest own map from)))
+Inv-loop syndromes flips map own from n k₀ grants₀ k grants = (k ≤ 15) × (grants ≤ 65535 * k) × (tally k grants (run (15 - k) (rest own map (from + k))) ≡ tally 0 0 (run 15 (rest own map from)))
 
 abbrev μ-loop : tie.MeasureT-loop
-μ-loop syndromes remainders flips map own from n k₀ grants₀ k grants = 15 - k
+μ-loop syndromes flips map own from n k₀ grants₀ k grants = 15 - k
 
 loop-holds : tie.Need-loop-holds Inv-loop μ-loop
 loop-holds c = (search needs, search needs, rw add-zero)

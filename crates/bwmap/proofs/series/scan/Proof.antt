@@ -12,10 +12,10 @@ use Rattle.bwmap.proofs.series.scan.Statement.{statement}
 use Rattle.bwmap.proofs.series.scan.Tie as tie
 
 abbrev Inv-loop : tie.InvT-loop
-Inv-loop syndromes remainders flips map own from to heads i₀ i = seen own map heads i (to - i) ≡ seen own map heads from (to - from)
+Inv-loop syndromes flips map own from to heads i₀ i = seen own map heads i (to - i) ≡ seen own map heads from (to - from)
 
 abbrev μ-loop : tie.MeasureT-loop
-μ-loop syndromes remainders flips map own from to heads i₀ i = to - i
+μ-loop syndromes flips map own from to heads i₀ i = to - i
 
 loop-holds : tie.Need-loop-holds Inv-loop μ-loop
 loop-holds c = refl

@@ -22,6 +22,9 @@ shared-slice-read-wide64-2 c = search needs
 wide64-requires-2 : tie.Need-wide64-requires-2
 wide64-requires-2 c κs = search needs
 
+add-result : tie.Need-add-result
+add-result c = search needs
+
 mul-result-2 : tie.Need-mul-result-2
 mul-result-2 c = search needs
 
@@ -30,6 +33,9 @@ shared-slice-read-wide64-3 c = search needs
 
 wide64-requires-3 : tie.Need-wide64-requires-3
 wide64-requires-3 c κs = search needs
+
+add-result-2 : tie.Need-add-result-2
+add-result-2 c = search needs
 
 mul-result-3 : tie.Need-mul-result-3
 mul-result-3 c = search needs
@@ -40,6 +46,9 @@ shared-slice-read-wide64-4 c = search needs
 wide64-requires-4 : tie.Need-wide64-requires-4
 wide64-requires-4 c κs = search needs
 
+add-result-3 : tie.Need-add-result-3
+add-result-3 c = search needs
+
 mul-result-4 : tie.Need-mul-result-4
 mul-result-4 c = search needs
 
@@ -48,6 +57,9 @@ shared-slice-read-wide64-5 c = search needs
 
 wide64-requires-5 : tie.Need-wide64-requires-5
 wide64-requires-5 c κs = search needs
+
+add-result-4 : tie.Need-add-result-4
+add-result-4 c = search needs
 
 mul-result-5 : tie.Need-mul-result-5
 mul-result-5 c = search needs
@@ -58,6 +70,9 @@ shared-slice-read-wide64-6 c = search needs
 wide64-requires-6 : tie.Need-wide64-requires-6
 wide64-requires-6 c κs = search needs
 
+add-result-5 : tie.Need-add-result-5
+add-result-5 c = search needs
+
 mul-result-6 : tie.Need-mul-result-6
 mul-result-6 c = search needs
 
@@ -67,6 +82,9 @@ shared-slice-read-wide64-7 c = search needs
 wide64-requires-7 : tie.Need-wide64-requires-7
 wide64-requires-7 c κs = search needs
 
+add-result-6 : tie.Need-add-result-6
+add-result-6 c = search needs
+
 mul-result-7 : tie.Need-mul-result-7
 mul-result-7 c = search needs
 
@@ -75,24 +93,6 @@ shared-slice-read-wide64-8 c = search needs
 
 wide64-requires-8 : tie.Need-wide64-requires-8
 wide64-requires-8 c κs = search needs
-
-add-result : tie.Need-add-result
-add-result c = search needs
-
-add-result-2 : tie.Need-add-result-2
-add-result-2 c = search needs
-
-add-result-3 : tie.Need-add-result-3
-add-result-3 c = search needs
-
-add-result-4 : tie.Need-add-result-4
-add-result-4 c = search needs
-
-add-result-5 : tie.Need-add-result-5
-add-result-5 c = search needs
-
-add-result-6 : tie.Need-add-result-6
-add-result-6 c = search needs
 
 add-result-7 : tie.Need-add-result-7
 add-result-7 c = search needs
@@ -111,29 +111,29 @@ word64-spec =
     mul-result
     shared-slice-read-wide64-2
     wide64-requires-2
+    add-result
     mul-result-2
     shared-slice-read-wide64-3
     wide64-requires-3
+    add-result-2
     mul-result-3
     shared-slice-read-wide64-4
     wide64-requires-4
+    add-result-3
     mul-result-4
     shared-slice-read-wide64-5
     wide64-requires-5
+    add-result-4
     mul-result-5
     shared-slice-read-wide64-6
     wide64-requires-6
+    add-result-5
     mul-result-6
     shared-slice-read-wide64-7
     wide64-requires-7
+    add-result-6
     mul-result-7
     shared-slice-read-wide64-8
     wide64-requires-8
-    add-result
-    add-result-2
-    add-result-3
-    add-result-4
-    add-result-5
-    add-result-6
     add-result-7
     returns)

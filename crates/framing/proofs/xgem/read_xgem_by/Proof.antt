@@ -13,7 +13,7 @@ use Rattle.framing.proofs.xgem.read_xgem_by.Tie as tie
 returns : tie.Need-returns
 returns c =
     let a = c .before .before .args in
-    read-short (readingBy (now (a .syndromes)) (now (a .remainders)) (now (a .flips)) 8) 8 xgemOf (now (a .s)) (c .if1 .taken)
+    read-short (readingBy (now (a .syndromes)) (now (a .flips)) 8) 8 xgemOf (now (a .s)) (c .if1 .taken)
 
 word64-requires : tie.Need-word64-requires
 word64-requires c κs = search needs
@@ -27,7 +27,7 @@ found-requires c κs = search needs
 returns-2 : tie.Need-returns-2
 returns-2 c =
     let a = c .before .before .before .before .before .args in
-    read-found (readingBy (now (a .syndromes)) (now (a .remainders)) (now (a .flips)) 8) 8 xgemOf (now (a .s)) _ (found64 (c .before .read64-by .result)) _ (c .before .before .before .if1 .left) (c .before .before .word64 .ensures) (c .before .read64-by .ensures) (c .found .ensures)
+    read-found (readingBy (now (a .syndromes)) (now (a .flips)) 8) 8 xgemOf (now (a .s)) _ (found64 (c .before .read64-by .result)) _ (c .before .before .before .if1 .left) (c .before .before .word64 .ensures) (c .before .read64-by .ensures) (c .found .ensures)
 
 pub read-xgem-by-spec : {M : Type 1} → statement M
 read-xgem-by-spec =

@@ -19,7 +19,7 @@ read : (c : tie.After-read-xgem-by) → foundXgem (c .read-xgem-by .result) ≡ 
 read c =
     let s = c .before .before in
     c .read-xgem-by .ensures
-    ∙ lent-xgem (now (s .args .syndromes)) (now (s .args .remainders)) (now (s .args .flips)) (s .pre .0) (s .pre .1) (s .pre .2) (now (s .args .left))
+    ∙ lent-xgem (now (s .args .syndromes)) (now (s .args .flips)) (s .pre .0) (s .pre .1) (now (s .args .left))
     (λ i. omega (arith, c .before .shared-slice-known .given i))
 
 enum-told : tie.Need-enum-told

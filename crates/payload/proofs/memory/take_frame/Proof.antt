@@ -9,7 +9,9 @@ use native.Mathlib.Omega.{arith}
 use borrow.Rule.Slice.PartMut.{putMid}
 use lib.ListN.{length, getD, take, drop, length-take, length-drop}
 use lib.Seq.{take-length}
+use Rattle.station.specs.declared.slots.Ports.{Ports}
 use Rattle.station.specs.Limits.{slots, slotBytes}
+use Rattle.payload.specs.Fragments.{after}
 use Rattle.payload.specs.Memory.{Receiver, put, delivery, partial, memoryAfter, deliveriesAfter, bytesAfter, taken}
 use Rattle.payload.specs.Bounds.{Within, total, Ready}
 use Rattle.payload.proofs.Put.{part-put}
@@ -19,50 +21,75 @@ use borrow.Author.Needs.{needs}
 use Rattle.payload.proofs.memory.take_frame.Statement.{statement}
 use Rattle.payload.proofs.memory.take_frame.Tie as tie
 
-effect-of-requires : tie.Need-effect-of-requires
-effect-of-requires c κs = search needs
+effect-in-requires : tie.Need-effect-in-requires
+effect-in-requires c κs = search needs
+
+-- the ports that the parts are
+abbrev ports : (c : tie.Start) → Ports
+ports c = record { ids = c .args .ids; lengths = now (c .args .lengths); waiting = now (c .args .waiting) }
 
 -- what the effect says of its slot is so
-within : (c : tie.After-effect-of) → let a = c .before .before .before .before .before .args in Within (a .p .ports) (c .effect-of .result) (length (now (a .body)))
+within : (c : tie.After-effect-in) → let s = c .before .before .before .before .before .before in Within (ports s) (c .effect-in .result) (length (now (s .args .body)))
 within c =
-    let s = c .before .before .before .before .before in
-    rw (c .effect-of .ensures) (effect-within (s .args .p .ports) (s .args .own) (s .args .port) (s .args .last) (length (now (s .args .body))) (s .pre .0 .ids))
+    let s = c .before .before .before .before .before .before in
+    rw (c .effect-in .ensures) (effect-within (ports s) (s .args .own) (s .args .port) (s .args .last) (length (now (s .args .body))) (s .pre .0 .ids))
 
-in-deliver : (c : tie.After-known-told) → let a = c .before .before .before .before .before .before .before .before .before .args in
-    (c .before .effect .given .0 .0 < slots) × (c .before .effect .given .0 .1 .0 + length (now (a .body)) ≤ slotBytes) × (c .before .effect .given .0 .1 .0 ≤ total (a .p .ports .lengths))
+in-discard : (c : tie.After-known-told) → c .before .effect .given .0 .0 < slots
+in-discard c =
+    let w : c .before .effect .given .0 .0 < slots = rw (c .before .effect .given .1) at (within (c .before .before .before)) in
+    w
+
+in-deliver : (c : tie.After-known-told2) → let a = c .before .before .before .before .before .before .before .before .before .args in
+    (c .before .effect2 .given .0 .0 < slots) × (c .before .effect2 .given .0 .1 .0 + length (now (a .body)) ≤ slotBytes) × (c .before .effect2 .given .0 .1 .0 ≤ total (now (a .lengths)))
 in-deliver c =
     let a = c .before .before .before .before .before .before .before .before .before .args in
-    let w : (c .before .effect .given .0 .0 < slots) × (c .before .effect .given .0 .1 .0 ≡ getD (a .p .ports .lengths) (c .before .effect .given .0 .0) 0) × (c .before .effect .given .0 .1 .0 + length (now (a .body)) ≤ slotBytes) =
-    rw (c .before .effect .given .1) at (within (c .before .before .before .before)) in
-    (w .0, w .2, rw (w .1) (one-of-total (a .p .ports .lengths) (c .before .effect .given .0 .0)))
+    let w : (c .before .effect2 .given .0 .0 < slots) × (c .before .effect2 .given .0 .1 .0 ≡ getD (now (a .lengths)) (c .before .effect2 .given .0 .0) 0) × (c .before .effect2 .given .0 .1 .0 + length (now (a .body)) ≤ slotBytes) =
+    rw (c .before .effect2 .given .1) at (within (c .before .before .before)) in
+    (w .0, w .2, rw (w .1) (one-of-total (now (a .lengths)) (c .before .effect2 .given .0 .0)))
 
-in-append : (c : tie.After-known-told2) → let a = c .before .before .before .before .before .before .before .before .before .args in
-    (c .before .effect2 .given .0 .0 < slots) × (c .before .effect2 .given .0 .1 .0 + length (now (a .body)) ≤ slotBytes)
+in-append : (c : tie.After-known-told3) → let a = c .before .before .before .before .before .before .before .before .before .args in
+    (c .before .effect3 .given .0 .0 < slots) × (c .before .effect3 .given .0 .1 .0 + length (now (a .body)) ≤ slotBytes)
 in-append c =
     let a = c .before .before .before .before .before .before .before .before .before .args in
-    let w : (c .before .effect2 .given .0 .0 < slots) × (c .before .effect2 .given .0 .1 .0 ≡ getD (a .p .ports .lengths) (c .before .effect2 .given .0 .0) 0) × (c .before .effect2 .given .0 .1 .0 + length (now (a .body)) ≤ slotBytes) =
-    rw (c .before .effect2 .given .1) at (within (c .before .before .before .before)) in
+    let w : (c .before .effect3 .given .0 .0 < slots) × (c .before .effect3 .given .0 .1 .0 ≡ getD (now (a .lengths)) (c .before .effect3 .given .0 .0) 0) × (c .before .effect3 .given .0 .1 .0 + length (now (a .body)) ≤ slotBytes) =
+    rw (c .before .effect3 .given .1) at (within (c .before .before .before)) in
     (w .0, w .2)
 
 -- what the frame leaves, from its parts
-done-is : (c : tie.After-moved) → let a = c .before .before .before .before .before .before .args in let n = length (now (a .body)) in let e = c .before .effect-of .result in (b : ℕ) (m d : List ℕ)
-    → b ≡ bytesAfter (a .p .bytes) e n → m ≡ memoryAfter (now (a .memory)) e (now (a .body)) → d ≡ deliveriesAfter (now (a .deliveries)) (a .p .bytes) (now (a .memory)) e (a .port) (now (a .body))
-    → _≡_ {A = Receiver} (record { ports = c .moved .result; bytes = b; memory = m; deliveries = d }) (taken (a .own) (record { ports = a .p .ports; bytes = a .p .bytes; memory = now (a .memory); deliveries = now (a .deliveries) }) (a .port) (a .last) (now (a .body)))
-done-is c b m d eb em ed =
-    let a = c .before .before .before .before .before .before .args in
-    stepped (a .own) (record { ports = a .p .ports; bytes = a .p .bytes; memory = now (a .memory); deliveries = now (a .deliveries) }) (a .port) (a .last) (now (a .body)) (c .before .effect-of .result) (c .moved .result) b m d (c .before .effect-of .ensures) (c .moved .ensures) eb em ed
-
-moved-requires : tie.Need-moved-requires
-moved-requires c κs = within c
+done-is : (c : tie.After-effect-in) → let s = c .before .before .before .before .before .before in let a = s .args in let n = length (now (a .body)) in let e = c .effect-in .result in (p : Ports) (b : ℕ) (m d : List ℕ)
+    → p ≡ after (ports s) e n → b ≡ bytesAfter (a .bytes) e n → m ≡ memoryAfter (now (a .memory)) e (now (a .body)) → d ≡ deliveriesAfter (now (a .deliveries)) (a .bytes) (now (a .memory)) e (a .port) (now (a .body))
+    → _≡_ {A = Receiver} (record { ports = p; bytes = b; memory = m; deliveries = d }) (taken (a .own) (record { ports = ports s; bytes = a .bytes; memory = now (a .memory); deliveries = now (a .deliveries) }) (a .port) (a .last) (now (a .body)))
+done-is c p b m d ep eb em ed =
+    let s = c .before .before .before .before .before .before in
+    let a = s .args in
+    stepped (a .own) (record { ports = ports s; bytes = a .bytes; memory = now (a .memory); deliveries = now (a .deliveries) }) (a .port) (a .last) (now (a .body)) (c .effect-in .result) p b m d (c .effect-in .ensures) ep eb em ed
 
 enum-told : tie.Need-enum-told
 enum-told c = search needs
 
-enum-told-2 : tie.Need-enum-told-2
-enum-told-2 c = search needs
-
 enum-known-effect : tie.Need-enum-known-effect
 enum-known-effect c = search needs
+
+mul-lengths : tie.Need-mul-lengths
+mul-lengths c = omega (arith, in-discard c)
+
+element-write-lengths : tie.Need-element-write-lengths
+element-write-lengths c = in-discard c
+
+element-write-waiting : tie.Need-element-write-waiting
+element-write-waiting c = in-discard c
+
+enum-known-effect-2 : tie.Need-enum-known-effect-2
+enum-known-effect-2 c = search needs
+
+mul-lengths-2 : tie.Need-mul-lengths-2
+mul-lengths-2 c = omega (arith, in-deliver c)
+
+element-write-lengths-2 : tie.Need-element-write-lengths-2
+element-write-lengths-2 c = in-deliver c .0
+
+element-write-waiting-2 : tie.Need-element-write-waiting-2
+element-write-waiting-2 c = in-deliver c .0
 
 mul-from : tie.Need-mul-from
 mul-from c = omega (arith, in-deliver c)
@@ -82,17 +109,29 @@ part-deliver-end c = omega (arith, in-deliver (c .before .before), c .before .be
 deliver-requires : tie.Need-deliver-requires
 deliver-requires c κs = omega (arith, in-deliver (c .before .before .before), c .before .before .before .before .before .before .before .before .before .before .before .before .pre .0 .space, c .before .before .before .before .before .before .before .before .before .before .before .before .pre .0 .memory)
 
-add-t26 : tie.Need-add-t26
-add-t26 c = omega (arith, in-deliver (c .before .before .before .before .before .before))
+add-result : tie.Need-add-result
+add-result c = omega (arith, in-deliver (c .before .before .before .before .before .before))
 
-add-t29 : tie.Need-add-t29
-add-t29 c = omega (arith, in-deliver (c .before .before .before .before .before .before))
+add-result-2 : tie.Need-add-result-2
+add-result-2 c = omega (arith, in-deliver (c .before .before .before .before .before .before))
 
-add-t30 : tie.Need-add-t30
-add-t30 c = omega (arith, in-deliver (c .before .before .before .before .before .before), c .before .before .before .before .before .before .before .before .before .before .before .before .before .before .before .pre .0 .space)
+add-result-3 : tie.Need-add-result-3
+add-result-3 c = omega (arith, in-deliver (c .before .before .before .before .before .before), c .before .before .before .before .before .before .before .before .before .before .before .before .before .before .before .pre .0 .space)
 
-enum-known-effect-2 : tie.Need-enum-known-effect-2
-enum-known-effect-2 c = search needs
+enum-known-effect-3 : tie.Need-enum-known-effect-3
+enum-known-effect-3 c = search needs
+
+add-lengths : tie.Need-add-lengths
+add-lengths c = omega (arith, in-append c)
+
+cast-lengths : tie.Need-cast-lengths
+cast-lengths c = omega (arith, in-append c)
+
+mul-lengths-3 : tie.Need-mul-lengths-3
+mul-lengths-3 c = omega (arith, in-append c)
+
+element-write-lengths-3 : tie.Need-element-write-lengths-3
+element-write-lengths-3 c = in-append c .0
 
 mul-from-2 : tie.Need-mul-from-2
 mul-from-2 c = omega (arith, in-append c)
@@ -119,23 +158,21 @@ copy-requires : tie.Need-copy-requires
 copy-requires c κs =
     let k = c .before in
     let m = now (c .before .before .before .before .before .before .before .before .before .before .args .memory) in
-    let at = k .before .effect2 .given .0 .0 * slotBytes + k .before .effect2 .given .0 .1 .0 in
-    let size = k .before .effect2 .given .0 .0 * slotBytes + slotBytes - at in
+    let at = k .before .effect3 .given .0 .0 * slotBytes + k .before .effect3 .given .0 .1 .0 in
+    let size = k .before .effect3 .given .0 .0 * slotBytes + slotBytes - at in
     omega (arith, in-append k, c .before .before .before .before .before .before .before .before .before .before .pre .0 .memory, length-take size (drop at m), length-drop at m)
 
 returns : tie.Need-returns
 unfolding bytesAfter memoryAfter deliveriesAfter
 returns c =
-    let m = c .before .before in
     let g = c .enum-told .given .1 in
-    done-is m _ _ _ (rw g) (rw g) (rw g)
+    done-is (c .before .before) _ _ _ _ (rw g) (rw g) (rw g) (rw g)
 
 returns-2 : tie.Need-returns-2
 unfolding bytesAfter memoryAfter deliveriesAfter
 returns-2 c =
-    let m = c .before .before in
-    let g = c .enum-told2 .given .1 in
-    done-is m _ _ _ (rw g) (rw g) (rw g)
+    let g = c .before .effect .given .1 in
+    done-is (c .before .before .before) _ _ _ _ (rw g) (rw g) (rw g) (rw g)
 
 same-length : tie.Need-same-length
 same-length c = search needs
@@ -148,13 +185,13 @@ unfolding bytesAfter memoryAfter deliveriesAfter partial
 returns-3 c =
     let k = c .before .before .before .before .before .before in
     let a = c .before .before .before .before .before .before .before .before .before .before .before .before .before .before .before .args in
-    let g = k .before .effect .given .1 in
-    let slot = k .before .effect .given .0 .0 in
-    let have = k .before .effect .given .0 .1 .0 in
-    done-is (c .before .before .before .before .before .before .before .before .before) _ _ _ (rw g) (rw g)
+    let g = k .before .effect2 .given .1 in
+    let slot = k .before .effect2 .given .0 .0 in
+    let have = k .before .effect2 .given .0 .1 .0 in
+    done-is (c .before .before .before .before .before .before .before .before .before) _ _ _ _ (rw g) (rw g) (rw g)
     (rw g
     (c .before .before .deliver .ensures
-    ∙ ap (λ (z : ℕ). put (now (a .deliveries)) (a .p .bytes) (delivery (a .port) (take z (drop (slot * slotBytes) (now (a .memory))) ++ now (a .body)))) (add-sub-cancel-left (slot * slotBytes) have)))
+    ∙ ap (λ (z : ℕ). put (now (a .deliveries)) (a .bytes) (delivery (a .port) (take z (drop (slot * slotBytes) (now (a .memory))) ++ now (a .body)))) (add-sub-cancel-left (slot * slotBytes) have)))
 
 same-length-3 : tie.Need-same-length-3
 same-length-3 c = search needs
@@ -164,12 +201,12 @@ unfolding bytesAfter memoryAfter deliveriesAfter
 returns-4 c =
     let k = c .before .before .before .before in
     let a = c .before .before .before .before .before .before .before .before .before .before .before .before .before .args in
-    let g = k .before .effect2 .given .1 in
-    let at = k .before .effect2 .given .0 .0 * slotBytes + k .before .effect2 .given .0 .1 .0 in
-    let size = k .before .effect2 .given .0 .0 * slotBytes + slotBytes - at in
+    let g = k .before .effect3 .given .1 in
+    let at = k .before .effect3 .given .0 .0 * slotBytes + k .before .effect3 .given .0 .1 .0 in
+    let size = k .before .effect3 .given .0 .0 * slotBytes + slotBytes - at in
     let m = now (a .memory) in
     let body = now (a .body) in
-    done-is (c .before .before .before .before .before .before .before) _ _ _ (rw g)
+    done-is (c .before .before .before .before .before .before .before) _ _ _ _ (rw g) (rw g)
     (rw g
     (ap (λ (z : List ℕ). putMid at size m z) (c .before .before .copy .ensures .1 ∙ ap (λ (l : List ℕ). l ++ drop (length body) (take size (drop at m))) (take-length body))
     ∙ part-put m body at size (omega (arith, in-append k)) (omega (arith, in-append k, c .before .before .before .before .before .before .before .before .before .before .before .before .before .pre .0 .memory))))
@@ -179,21 +216,30 @@ pub take-frame-spec : {M : Type 1} → statement M
 take-frame-spec =
     tie.close
     (tie.spec
-    effect-of-requires
-    moved-requires
+    effect-in-requires
     enum-told
-    enum-told-2
     enum-known-effect
+    mul-lengths
+    element-write-lengths
+    element-write-waiting
+    enum-known-effect-2
+    mul-lengths-2
+    element-write-lengths-2
+    element-write-waiting-2
     mul-from
     add-to
     sub-deliver
     part-deliver-start
     part-deliver-end
     deliver-requires
-    add-t26
-    add-t29
-    add-t30
-    enum-known-effect-2
+    add-result
+    add-result-2
+    add-result-3
+    enum-known-effect-3
+    add-lengths
+    cast-lengths
+    mul-lengths-3
+    element-write-lengths-3
     mul-from-2
     add-from
     mul-to

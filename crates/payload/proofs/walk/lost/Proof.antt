@@ -12,7 +12,7 @@ drop-all-requires : tie.Need-drop-all-requires
 drop-all-requires c κs = search needs
 
 returns : tie.Need-returns
-returns c = ap {B = Received} (λ (p : Ports). record { ports = p; bytes = c .before .before .args .p .bytes; delineation = Lost }) (c .drop-all .ensures)
+returns c = ap {B = Received} (λ (p : Ports). record { ports = p; bytes = c .before .args .bytes; delineation = Lost }) (c .drop-all .ensures)
 
 pub lost-spec : {M : Type 1} → statement M
 lost-spec = tie.close (tie.spec drop-all-requires returns)

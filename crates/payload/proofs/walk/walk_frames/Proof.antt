@@ -2,13 +2,15 @@
 -- Assumes nothing.
 use denote.Ref.{now}
 use mathlib.Core.Path.{_≡_, refl, sym, ap, _∙_}
+use mathlib.Core.Bool.{Bool}
 use mathlib.Core.List.{List}
 use Prim.Native.Nat.{ℕ, _+_, _-_, _^_, _≤_, _<_}
 use native.Mathlib.Omega.{arith}
 use borrow.Author.Needs.{needs}
 use lib.ListN.{length, take, drop, length-take, length-drop}
 use Rattle.framing.specs.Layouts.{payloadSize}
-use Rattle.payload.specs.declared.memory.Progress.{Progress}
+use Rattle.ids.specs.declared.PortId.{PortId}
+use Rattle.station.specs.declared.slots.Ports.{Ports}
 use Rattle.payload.specs.declared.walk.Received.{Received}
 use Rattle.payload.specs.declared.frames.Next.the-variants.{Frame}
 use Rattle.payload.specs.Inside.{Inside}
@@ -20,16 +22,18 @@ use Rattle.payload.proofs.Walks.{At, Numbers, numbers-of, at-start, at-
 use Rattle.payload.proofs.walk.walk_frames.Statement.{statement}
 use Rattle.payload.proofs.walk.walk_frames.Tie as tie
 
-abbrev receiver : Progress → List ℕ → List ℕ → Receiver
-receiver p memory deliveries = record { ports = p .ports; bytes = p .bytes; memory = memory; deliveries = deliveries }
+abbrev together : List PortId → List ℕ → List Bool → Ports
+together ids lengths waiting = record { ids = ids; lengths = lengths; waiting = waiting }
+
+abbrev receiver : Ports → ℕ → List ℕ → List ℕ → Receiver
+receiver p bytes memory deliveries = record { ports = p; bytes = bytes; memory = memory; deliveries = deliveries }
 
 abbrev Inv-loop : tie.InvT-loop
-Inv-loop own memory₀ deliveries₀ place payload syndromes remainders flips progress₀ at₀ memory deliveries progress at =
-    At own place payload (receiver progress₀ memory₀ deliveries₀) (receiver progress memory deliveries) at × (length payload < 2 ^ 64)
+Inv-loop own memory₀ deliveries₀ place payload syndromes flips ids lengths₀ waiting₀ bytes₀ at₀ memory deliveries lengths waiting bytes at =
+    At own place payload (receiver (together ids lengths₀ waiting₀) bytes₀ memory₀ deliveries₀) (receiver (together ids lengths waiting) bytes memory deliveries) at × (length payload < 2 ^ 64)
 
 abbrev μ-loop : tie.MeasureT-loop
-μ-loop own memory₀ deliveries₀ place payload syndromes remainders flips progress₀ at₀ memory deliveries progress at =
-    length payload - at
+μ-loop own memory₀ deliveries₀ place payload syndromes flips ids lengths₀ waiting₀ bytes₀ at₀ memory deliveries lengths waiting bytes at = length payload - at
 
 table-requires : tie.Need-table-requires Inv-loop μ-loop
 table-requires c κs = search needs
@@ -37,45 +41,55 @@ table-requires c κs = search needs
 table-requires-2 : tie.Need-table-requires-2 Inv-loop μ-loop
 table-requires-2 c κs = search needs
 
-table-requires-3 : tie.Need-table-requires-3 Inv-loop μ-loop
-table-requires-3 c κs = search needs
-
 abbrev walked : List ℕ → List ℕ → Received → Walked
 walked memory deliveries r = record { receiver = record { ports = r .ports; bytes = r .bytes; memory = memory; deliveries = deliveries }; delineation = r .delineation }
 
+-- what the walk starts from, and what it has made of it
+start : (c : tie.Start Inv-loop μ-loop) → Receiver
+start c = receiver (c .args .ports) 0 (now (c .args .memory)) (now (c .args .deliveries))
+
+so-far : (c : tie.At-loop Inv-loop μ-loop) → Receiver
+so-far c = receiver (together (c .before .before .before .before .before .before .before .before .before .args .ports .ids) (c .loop .lengths) (c .loop .waiting)) (c .loop .bytes) (c .loop .memory) (c .loop .deliveries)
+
 -- what the code finds next is what the parse finds
-next : (c : tie.After-next-frame Inv-loop μ-loop) → c .next-frame .result ≡ nextOf (drop (c .before .before .before .before .before .loop .at) (now (c .before .before .before .before .before .before .before .before .before .before .before .before .args .payload)))
+next : (c : tie.After-next-frame Inv-loop μ-loop) → let l = c .before .before .before .before in c .next-frame .result ≡ nextOf (drop (l .loop .at) (now (l .before .before .before .before .before .before .before .before .before .args .payload)))
 next c =
-    let l = c .before .before .before .before .before in
-    c .next-frame .ensures .0 ∙ ap nextOf (rest-part (now (l .before .before .before .before .before .before .before .args .payload)) (l .loop .at))
+    let l = c .before .before .before .before in
+    c .next-frame .ensures .0 ∙ ap nextOf (rest-part (now (l .before .before .before .before .before .before .before .before .before .args .payload)) (l .loop .at))
 
 -- the frame that was found, and its numbers
-framed : (c : tie.After-known-told Inv-loop μ-loop) → nextOf (drop (c .before .before .before .before .before .before .before .before .loop .at) (now (c .before .before .before .before .before .before .before .before .before .before .before .before .before .before .before .args .payload))) ≡ Frame (c .before .next .given .0 .0)
+framed : (c : tie.After-known-told Inv-loop μ-loop) → let l = c .before .before .before .before .before .before .before in nextOf (drop (l .loop .at) (now (l .before .before .before .before .before .before .before .before .before .args .payload))) ≡ Frame (c .before .next .given .0 .0)
 framed c = sym (next (c .before .before .before)) ∙ c .before .next .given .1
 
-numbers : (c : tie.After-known-told Inv-loop μ-loop) → Numbers (now (c .before .before .before .before .before .before .before .before .before .before .before .before .before .before .before .args .payload)) (c .before .before .before .before .before .before .before .before .loop .at) (c .before .next .given .0 .0 .pli)
+numbers : (c : tie.After-known-told Inv-loop μ-loop) → let l = c .before .before .before .before .before .before .before in Numbers (now (l .before .before .before .before .before .before .before .before .before .args .payload)) (l .loop .at) (c .before .next .given .0 .0 .pli)
 numbers c =
-    let l = c .before .before .before .before .before .before .before .before in
+    let l = c .before .before .before .before .before .before .before in
     let i = rw (c .before .next .given .1) at (c .before .before .before .next-frame .ensures .1) in
-    numbers-of (now (l .before .before .before .before .before .before .before .args .payload)) (l .loop .at) (c .before .next .given .0 .0 .pli) (i .0) (i .1) (l .loop .inv .0 .inside) (l .loop .inv .1)
+    numbers-of (now (l .before .before .before .before .before .before .before .before .before .args .payload)) (l .loop .at) (c .before .next .given .0 .0 .pli) (i .0) (i .1) (l .loop .inv .0 .inside) (l .loop .inv .1)
 
 loop-holds : tie.Need-loop-holds Inv-loop μ-loop
-loop-holds c = (at-start (c .before .before .before .before .before .before .args .own) (c .before .before .before .before .before .before .args .place) (now (c .before .before .before .before .before .before .args .payload)) (receiver (c .before .before .before .before .before .before .args .p) (now (c .before .before .before .before .before .before .args .memory)) (now (c .before .before .before .before .before .before .args .deliveries))) (c .before .before .before .before .before .before .pre), omega arith)
+unfolding start
+loop-holds c =
+    let s = c .before .before .before .before .before .before .before .before in
+    (at-start (s .args .own) (s .args .place) (now (s .args .payload)) (start s) (s .pre), omega arith)
 
 sub-next-frame : tie.Need-sub-next-frame Inv-loop μ-loop
-sub-next-frame c = omega (arith, c .before .before .before .loop .inv .0 .inside)
+sub-next-frame c = omega (arith, c .before .before .loop .inv .0 .inside)
 
 part-next-frame-start : tie.Need-part-next-frame-start Inv-loop μ-loop
-part-next-frame-start c = omega (arith, c .before .before .before .loop .inv .0 .inside)
+part-next-frame-start c = omega (arith, c .before .before .loop .inv .0 .inside)
 
 part-next-frame-end : tie.Need-part-next-frame-end Inv-loop μ-loop
-part-next-frame-end c = omega (arith, c .before .before .before .loop .inv .0 .inside)
+part-next-frame-end c = omega (arith, c .before .before .loop .inv .0 .inside)
 
 next-frame-requires : tie.Need-next-frame-requires Inv-loop μ-loop
-next-frame-requires c κs = (c .before .before .before .before .before .before .before .table .ensures, c .before .before .before .before .before .before .table2 .ensures, c .before .before .before .before .before .table3 .ensures)
+next-frame-requires c κs = (c .before .before .before .before .before .before .before .before .table .ensures, c .before .before .before .before .before .before .before .table2 .ensures)
 
 enum-told : tie.Need-enum-told Inv-loop μ-loop
 enum-told c = search needs
+
+together-requires : tie.Need-together-requires Inv-loop μ-loop
+together-requires c κs = search needs
 
 kept-requires : tie.Need-kept-requires Inv-loop μ-loop
 kept-requires c κs = search needs
@@ -87,17 +101,18 @@ same-length-2 : tie.Need-same-length-2 Inv-loop μ-loop
 same-length-2 c = c .before .before .before .before .before .before .before .before .loop .inv .0 .deliveries
 
 returns : tie.Need-returns Inv-loop μ-loop
+unfolding start so-far
 returns c =
     let l = c .before .before .before .before .before .before .before .before in
-    let a = c .before .before .before .before .before .before .before .before .before .before .before .before .before .before .before .args in
-    let pay = now (a .payload) in
-    let r0 = receiver (a .p) (now (a .memory)) (now (a .deliveries)) in
-    let r = receiver (l .loop .progress) (l .loop .memory) (l .loop .deliveries) in
-    ap (walked (l .loop .memory) (l .loop .deliveries)) (c .kept .ensures)
-    ∙ at-done (a .own) (a .place) pay r0 r (l .loop .at) (l .loop .inv .0) (sym (next (c .before .before .before)) ∙ c .before .enum-told .given .1)
+    let s = l .before .before .before .before .before .before .before .before .before in
+    ap (walked (l .loop .memory) (l .loop .deliveries)) (rw (c .before .together .ensures) at (c .kept .ensures))
+    ∙ at-done (s .args .own) (s .args .place) (now (s .args .payload)) (start s) (so-far l) (l .loop .at) (l .loop .inv .0) (sym (next (c .before .before .before .before)) ∙ c .before .before .enum-told .given .1)
 
 enum-told-2 : tie.Need-enum-told-2 Inv-loop μ-loop
 enum-told-2 c = search needs
+
+together-requires-2 : tie.Need-together-requires-2 Inv-loop μ-loop
+together-requires-2 c κs = search needs
 
 lost-requires : tie.Need-lost-requires Inv-loop μ-loop
 lost-requires c κs = search needs
@@ -109,21 +124,18 @@ same-length-4 : tie.Need-same-length-4 Inv-loop μ-loop
 same-length-4 c = c .before .before .before .before .before .before .before .before .loop .inv .0 .deliveries
 
 returns-2 : tie.Need-returns-2 Inv-loop μ-loop
-unfolding endedBy
+unfolding endedBy start so-far
 returns-2 c =
     let l = c .before .before .before .before .before .before .before .before in
-    let a = c .before .before .before .before .before .before .before .before .before .before .before .before .before .before .before .args in
-    let pay = now (a .payload) in
-    let r0 = receiver (a .p) (now (a .memory)) (now (a .deliveries)) in
-    let r = receiver (l .loop .progress) (l .loop .memory) (l .loop .deliveries) in
-    ap (walked (l .loop .memory) (l .loop .deliveries)) (c .lost .ensures)
-    ∙ at-lost (a .own) (a .place) pay r0 r (l .loop .at) (l .loop .inv .0) (sym (next (c .before .before .before)) ∙ c .before .enum-told2 .given .1)
+    let s = l .before .before .before .before .before .before .before .before .before in
+    ap (walked (l .loop .memory) (l .loop .deliveries)) (rw (c .before .together2 .ensures) at (c .lost .ensures))
+    ∙ at-lost (s .args .own) (s .args .place) (now (s .args .payload)) (start s) (so-far l) (l .loop .at) (l .loop .inv .0) (sym (next (c .before .before .before .before)) ∙ c .before .before .enum-told2 .given .1)
 
 enum-known-next : tie.Need-enum-known-next Inv-loop μ-loop
 enum-known-next c = search needs
 
 add-body : tie.Need-add-body Inv-loop μ-loop
-add-body c = omega (arith, numbers (c))
+add-body c = omega (arith, numbers c)
 
 cast-end : tie.Need-cast-end Inv-loop μ-loop
 cast-end c = omega (arith, numbers (c .before))
@@ -132,43 +144,41 @@ add-end : tie.Need-add-end Inv-loop μ-loop
 add-end c = omega (arith, numbers (c .before))
 
 sub-take-frame : tie.Need-sub-take-frame Inv-loop μ-loop
-sub-take-frame c = omega (arith, numbers (c .before .before .before .before))
+sub-take-frame c = omega (arith, numbers (c .before .before .before .before .before .before))
 
 part-take-frame-start : tie.Need-part-take-frame-start Inv-loop μ-loop
-part-take-frame-start c = omega (arith, numbers (c .before .before .before .before))
+part-take-frame-start c = omega (arith, numbers (c .before .before .before .before .before .before))
 
 part-take-frame-end : tie.Need-part-take-frame-end Inv-loop μ-loop
-part-take-frame-end c = omega (arith, numbers (c .before .before .before .before))
+part-take-frame-end c = omega (arith, numbers (c .before .before .before .before .before .before))
 
 take-frame-requires : tie.Need-take-frame-requires Inv-loop μ-loop
+unfolding so-far
 take-frame-requires c κs =
-    let l = c .before .before .before .before .before .before .before .before .before .before .before .before .before in
-    let a = c .before .before .before .before .before .before .before .before .before .before .before .before .before .before .before .before .before .before .before .before .args in
-    let pay = now (a .payload) in
+    let l = c .before .before .before .before .before .before .before .before .before .before .before .before .before .before in
+    let pay = now (l .before .before .before .before .before .before .before .before .before .args .payload) in
     let at = l .loop .at in
-    let n = numbers (c .before .before .before .before .before) in
-    let pli = c .before .before .before .before .before .before .next .given .0 .0 .pli in
+    let n = numbers (c .before .before .before .before .before .before .before) in
+    let pli = c .before .before .before .before .before .before .before .before .next .given .0 .0 .pli in
     let size : length (take (at + 8 + pli - (at + 8)) (drop (at + 8) pay)) ≡ pli = omega (arith, length-take (at + 8 + pli - (at + 8)) (drop (at + 8) pay), length-drop (at + 8) pay) in
-    (ready-less (receiver (l .loop .progress) (l .loop .memory) (l .loop .deliveries)) (length pay - at) _ (l .loop .inv .0 .ready) (omega arith), omega arith)
+    (ready-less (so-far l) (length pay - at) _ (l .loop .inv .0 .ready) (omega arith), omega arith)
 
 payload-size-requires : tie.Need-payload-size-requires Inv-loop μ-loop
 payload-size-requires c κs = search needs
 
 add-at : tie.Need-add-at Inv-loop μ-loop
-add-at c = omega (arith, numbers (c .before .before .before .before .before .before .before .before .before .before .before), c .payload-size .ensures)
+add-at c = omega (arith, numbers (c .before .before .before .before .before .before .before .before .before .before .before .before .before), c .payload-size .ensures)
 
 loop-less : tie.Need-loop-less Inv-loop μ-loop
-loop-less c = omega (arith, numbers (c .before .before .before .before .before .before .before .before .before .before .before), c .payload-size .ensures)
+loop-less c = omega (arith, numbers (c .before .before .before .before .before .before .before .before .before .before .before .before .before), c .payload-size .ensures)
 
 loop-again : tie.Need-loop-again Inv-loop μ-loop
+unfolding start so-far
 loop-again c =
-    let l = c .before .before .before .before .before .before .before .before .before .before .before .before .before .before .before .before .before .before .before in
-    let a = c .before .before .before .before .before .before .before .before .before .before .before .before .before .before .before .before .before .before .before .before .before .before .before .before .before .before .args in
-    let pay = now (a .payload) in
-    let r0 = receiver (a .p) (now (a .memory)) (now (a .deliveries)) in
-    let r = receiver (l .loop .progress) (l .loop .memory) (l .loop .deliveries) in (
+    let l = c .before .before .before .before .before .before .before .before .before .before .before .before .before .before .before .before .before .before .before .before in
+    let s = l .before .before .before .before .before .before .before .before .before in (
       rw (c .payload-size .ensures)
-          (at-turn (a .own) (a .place) pay r0 r (l .loop .at) (l .loop .inv .0) (c .before .before .before .before .before .before .before .before .before .before .before .before .next .given .0 .0) (framed (c .before .before .before .before .before .before .before .before .before .before .before)) _ (c .before .before .before .before .before .take-frame .ensures)),
+          (at-turn (s .args .own) (s .args .place) (now (s .args .payload)) (start s) (so-far l) (l .loop .at) (l .loop .inv .0) (c .before .before .before .before .before .before .before .before .before .before .before .before .before .before .next .given .0 .0) (framed (c .before .before .before .before .before .before .before .before .before .before .before .before .before)) _ (c .before .before .before .before .before .take-frame .ensures)),
       l .loop .inv .1,
     )
 
@@ -180,18 +190,19 @@ walk-frames-spec =
     μ-loop
     table-requires
     table-requires-2
-    table-requires-3
     loop-holds
     sub-next-frame
     part-next-frame-start
     part-next-frame-end
     next-frame-requires
     enum-told
+    together-requires
     kept-requires
     same-length
     same-length-2
     returns
     enum-told-2
+    together-requires-2
     lost-requires
     same-length-3
     same-length-4

@@ -1,0 +1,47 @@
+-- `hec::damage::mend_as` meets its contract: each of its answers is that of a step.
+-- Assumes nothing.
+use Rattle.hec.proofs.Steps.{few-enough, too-many}
+use borrow.Author.Needs.{needs}
+use Rattle.hec.proofs.damage.mend_as.Statement.{statement}
+use Rattle.hec.proofs.damage.mend_as.Tie as tie
+
+add-last : tie.Need-add-last
+add-last c = search needs
+
+add-if1 : tie.Need-add-if1
+add-if1 c = search needs
+
+cast-first : tie.Need-cast-first
+cast-first c = search needs
+
+cast-second : tie.Need-cast-second
+cast-second c = search needs
+
+shl-bits : tie.Need-shl-bits
+shl-bits c = search needs
+
+shl-bits-2 : tie.Need-shl-bits-2
+shl-bits-2 c = search needs
+
+cast-t15 : tie.Need-cast-t15
+cast-t15 c = search needs
+
+returns : tie.Need-returns
+returns c = let a = c .before .args in few-enough (a .entry) (a .word) (a .syndrome) (c .if1 .taken)
+
+returns-2 : tie.Need-returns-2
+returns-2 c = let a = c .before .args in too-many (a .entry) (a .word) (a .syndrome) (c .if1 .left)
+
+pub mend-as-spec : {M : Type 1} → statement M
+mend-as-spec =
+    tie.close
+    (tie.spec
+    add-last
+    add-if1
+    cast-first
+    cast-second
+    shl-bits
+    shl-bits-2
+    cast-t15
+    returns
+    returns-2)
