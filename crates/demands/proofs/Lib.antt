@@ -9,3 +9,4 @@ pub mod MeetsDemand1
 pub mod Bite
 pub mod BiteOfDemand3
 pub mod Keeps
+pub mod MeetsDemand2

@@ -82,7 +82,7 @@ planned-fully own m carried plan answer left h e =
 
 -- ---- the replies: room for as many as can be planned
 
-messages-few : (l : List Series) → messages l ≤ length l
+pub messages-few : (l : List Series) → messages l ≤ length l
 messages-few [] = omega arith
 messages-few (s ∷ l) = step (s .head .ploamu) (messages l) (length l) (messages-few l)
   where

@@ -1,0 +1,48 @@
+-- Demand 2 is met.
+-- Assumes nothing.
+use Prim.Native.Nat.{ℕ}
+use mathlib.Core.Path.{_≡_, _∙_, refl, ap}
+use mathlib.Core.Bool.{Bool, true, false, cond}
+use mathlib.Core.List.{List}
+use Rattle.framing.proofs.RoundTrips.{hlend-written-read, allocation-written-read, xgem-written-read, frame-written-read}
+use Rattle.ploam.specs.Reading.{received}
+use Rattle.ploam.specs.Integrity.{installedKey, genuine}
+use Rattle.ploam.specs.declared.Message.{Message}
+use Rattle.ploam.specs.declared.Received.{Received}
+use Rattle.ploam.specs.declared.Received.the-variants.{Whole, Short}
+use Rattle.ploam.proofs.RoundTrip.{round-trip, signed-right}
+use Rattle.station.specs.declared.Station.{Station}
+use Rattle.effects.specs.Decisions.{isOurs, effectOf, fitting}
+use Rattle.effects.specs.Changes.{applied}
+use Rattle.effects.specs.Acts.{act}
+use Rattle.activation.specs.Receiving.{acting, receive}
+use Rattle.demands.specs.Demand2.{Demand2}
+use Rattle.demands.proofs.HeaderFact.{header-fact}
+
+ignored : (s : Station) (r : Received) → acting s false r ≡ s
+unfolding act
+ignored s Short = refl
+ignored s (Whole m) = go (isOurs s m)
+  where
+    go : (b : Bool) → cond b s s ≡ s
+    go true = refl
+    go false = refl
+
+unheeded : (s : Station) (m : List ℕ) → genuine (installedKey (s .link .key .held) (s .link .key .octets)) m ≡ false → receive s m ≡ s
+unfolding receive
+unheeded s m e = ap (λ (b : Bool). acting s b (received m)) e ∙ ignored s (received m)
+
+pub meets-demand-2 : Demand2
+meets-demand-2 =
+    record {
+      headers = header-fact;
+      hlend = hlend-written-read;
+      allocation = allocation-written-read;
+      xgem = xgem-written-read;
+      frame = frame-written-read;
+      message = λ installed message id target n l h.
+        let a = round-trip installed message id target n l h in
+        record { address = a .address; type = a .type; seqNo = a .seqNo; content = a .content; said = a .said; right = a .right };
+      signed = signed-right;
+      integrity = unheeded;
+    }

@@ -1,0 +1,58 @@
+-- Demand 2: "Headers, grants, messages, integrity fields, payload and activation steps are as G.987.3 with Amendment 1 and our
+-- first paper give them. What we write and read again comes back equal. A header is mended where a true one differs in at most
+-- two bits, and is unreadable only where there is none."
+-- What the frame call does with grants, messages, payload and activation steps is demand 1's row for answers 0 and 6, over
+-- the definitions of their crates; here stand headers, what is written and read again, and integrity.
+-- Assumes nothing.
+use Prim.Native.Nat.{ℕ, _+_, _≤_}
+use mathlib.Core.Path.{_≡_}
+use mathlib.Core.Bool.{true, false}
+use mathlib.Core.List.{List, _++_}
+use lib.ListN.{length, take, drop}
+use Rattle.framing.specs.declared.hlend.Hlend.{Hlend}
+use Rattle.framing.specs.declared.allocation.Allocation.{Allocation}
+use Rattle.framing.specs.declared.xgem.XgemHeader.{XgemHeader}
+use Rattle.framing.specs.Layouts.{hlendFits, allocationFits, xgemFits, payloadSize}
+use Rattle.framing.specs.Reads.{fields, readHlend, readAllocation, readXgem}
+use Rattle.framing.specs.Writes.{writeHlend, writeAllocation, writeXgem, carrying, writeXgemFrame}
+use Rattle.ploam.specs.Layout.{messageOctets, coveredOctets, addressOf, typeOf, seqNoOf}
+use Rattle.ploam.specs.Integrity.{micOf, micRight, keyFor, installedKey, genuine}
+use Rattle.ploam.specs.Upstream.{upstreamAddress, upstreamType, upstreamSeqNo, upstreamContent, heard, asSent, Numbers}
+use Rattle.ploam.specs.Writing.{written}
+use Rattle.ploam.specs.declared.Direction.{Direction}
+use Rattle.ploam.specs.declared.Direction.the-variants.{Upstream}
+use Rattle.ploam.specs.declared.UpstreamMessage.{UpstreamMessage}
+use Rattle.ploam.specs.declared.Heard.the-variants.{Said}
+use Rattle.station.specs.declared.Station.{Station}
+use Rattle.activation.specs.Receiving.{receive}
+use Rattle.demands.specs.Headers.{HeaderFact}
+
+-- what is read of the octets m that were written of a message
+pub record Again (installed : List ℕ) (message : UpstreamMessage) (id m : List ℕ) : Type 0 where
+  pub address : addressOf m ≡ upstreamAddress message
+  pub type : typeOf m ≡ upstreamType message
+  pub seqNo : seqNoOf m ≡ upstreamSeqNo message
+  pub content : take 36 (drop 4 m) ≡ upstreamContent message id
+  pub said : heard m ≡ Said (asSent message)
+  pub right : micRight (keyFor Upstream (addressOf m) (typeOf m) installed) Upstream m ≡ true
+
+pub record Demand2 : Type 0 where
+  -- "A header is mended where a true one differs in at most two bits, and is unreadable only where there is none": HLend has 32
+  -- bits, the other two 64
+  pub headers : (n : ℕ) → n ≤ 64 → HeaderFact n
+  -- "What we write and read again comes back equal"
+  pub hlend : (h : Hlend) → hlendFits h ≡ true → (target : List ℕ) → 4 ≤ length target → readHlend (writeHlend h target .target) ≡ fields h
+  pub allocation : (a : Allocation) → allocationFits a ≡ true → (target : List ℕ) → 8 ≤ length target → readAllocation (writeAllocation a target .target) ≡ fields a
+  pub xgem : (x : XgemHeader) → xgemFits x ≡ true → (target : List ℕ) → 8 ≤ length target → readXgem (writeXgem x target .target) ≡ fields x
+  pub frame
+      : (x : XgemHeader) (sdu : List ℕ) → xgemFits (carrying x sdu) ≡ true → (target : List ℕ) → 8 + payloadSize (length sdu) ≤ length target
+      → (readXgem (writeXgemFrame x sdu target .target) ≡ fields (carrying x sdu)) × (take (length sdu) (drop 8 (writeXgemFrame x sdu target .target)) ≡ sdu)
+  pub message
+      : (installed : List ℕ) (message : UpstreamMessage) (id target : List ℕ) → Numbers message → length id ≡ 36 → messageOctets ≤ length target
+      → Again installed message id (written installed message id target .target)
+  -- octets 1 to 40 that are signed are found right, in either direction
+  pub signed
+      : (key : List ℕ) (direction : Direction) (octets rest : List ℕ) → length octets ≡ coveredOctets
+      → micRight key direction (octets ++ micOf key direction octets ++ rest) ≡ true
+  -- and a message whose integrity field is not right under its own key changes nothing
+  pub integrity : (s : Station) (m : List ℕ) → genuine (installedKey (s .link .key .held) (s .link .key .octets)) m ≡ false → receive s m ≡ s

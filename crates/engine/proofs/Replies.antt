@@ -1,0 +1,159 @@
+-- Past the last reply the reply buffer keeps its octets.
+-- Assumes nothing.
+use Prim.Native.Nat.{ℕ, zero, suc, _+_, _-_, _*_, _≤_}
+use native.Mathlib.Omega.{arith}
+use mathlib.Core.Path.{_≡_, _∙_, refl, sym, ap}
+use mathlib.Core.Bool.{Bool, true, false, not, cond, _&&_}
+use mathlib.Core.List.{List, [], _∷_, _++_}
+use lib.Dec.{leb}
+use lib.ListN.{length, take, drop, length-take, length-drop, length-append}
+use lib.Seq.{drop-drop, drop-at}
+use Rattle.aes.specs.Cipher.{lastOf, aes128}
+use Rattle.cmac.specs.Mac.{cmac, cmac64}
+use Rattle.framing.specs.declared.hlend.Hlend.{Hlend}
+use Rattle.framing.specs.Reads.{Found, fields, unreadable, short, readHlend}
+use Rattle.ploam.specs.Layout.{messageOctets}
+use Rattle.ploam.specs.Integrity.{micOf, keyFor}
+use Rattle.ploam.specs.Upstream.{upstreamAddress, upstreamType, upstreamContent, upstreamOctets, fitting}
+use Rattle.ploam.specs.Writing.{laid, written}
+use Rattle.ploam.specs.declared.Direction.the-variants.{Upstream}
+use Rattle.ploam.specs.declared.UpstreamMessage.{UpstreamMessage}
+use Rattle.ploam.specs.declared.UpstreamMessage.the-variants.{SerialNumberOnu, Registration, Acknowledgement}
+use Rattle.station.specs.declared.Activation.{Activation}
+use Rattle.station.specs.declared.Activation.the-variants.{Initial, SerialNumber, Ranging, Operation, Intermittent, EmergencyStop}
+use Rattle.station.specs.declared.Station.{Station}
+use Rattle.station.specs.declared.answers.Answer.the-variants.{StateOutOfRange, FrameLengthUnfit, BufferTooShort, HeaderTooLong}
+use Rattle.station.specs.Limits.{registrationOctets}
+use Rattle.ranges.specs.Ranges.{inRange}
+use Rattle.activation.specs.Replying.{replyOf, afterIn, afterReply}
+use Rattle.activation.specs.declared.replying.Reply.{Reply}
+use Rattle.activation.specs.declared.replying.Reply.the-variants.{Silent, Says}
+use Rattle.replies.specs.Replies.{keyOf, said, wrote, inPlace, repliesFrom}
+use Rattle.bwmap.specs.Plan.{messages}
+use Rattle.bwmap.proofs.Kept.{bursts-most}
+use Rattle.engine.specs.Lengths.{Lent, lengthFits, buffersFit}
+use Rattle.engine.specs.Partitions.{headerEnd, mapOf}
+use Rattle.engine.specs.Frame.{Left, ownOf, refused, unread, plannedIn, repliesIn, done, handled, byHlend, frameLeft}
+use Rattle.engine.proofs.Laws.{Room, room, messages-few}
+
+-- ---- a message has 48 octets
+
+content-long : (message : UpstreamMessage) (id : List ℕ) → length id ≡ registrationOctets → length (upstreamContent message id) ≡ 36
+content-long (SerialNumberOnu serial delay) id h = refl
+content-long (Registration onu seq) id h = h
+content-long (Acknowledgement onu seq code) id h = refl
+
+octets-long : (message : UpstreamMessage) (id : List ℕ) → length id ≡ registrationOctets → length (upstreamOctets message id) ≡ 40
+unfolding upstreamOctets
+octets-long message id h = let l = content-long message id h in omega arith
+
+mic-long : (key m : List ℕ) → length (cmac64 key m) ≡ 8
+unfolding cmac aes128 lastOf
+mic-long key m = refl
+
+laid-long : (mic octets target : List ℕ) (fits : Bool) → length mic ≡ 8 → length octets ≡ 40 → length target ≡ messageOctets → length (laid mic fits octets target .target) ≡ messageOctets
+laid-long mic octets target fits m o t = go (fits && leb messageOctets (length target))
+  where
+    go : (b : Bool) → length (cond b (octets ++ mic ++ drop messageOctets target) target) ≡ messageOctets
+    go true = omega (arith, length-append octets (mic ++ drop messageOctets target), length-append mic (drop messageOctets target), length-drop messageOctets target)
+    go false = t
+
+wrote-long : (s : Station) (delay : ℕ) (t : List ℕ) → length (s .registration) ≡ registrationOctets → length t ≡ messageOctets → length (wrote s delay t) ≡ messageOctets
+unfolding wrote written
+wrote-long s delay t r h = go (replyOf s delay)
+  where
+    go : (x : Reply) → length (said s x t) ≡ messageOctets
+    go Silent = h
+    go (Says message) =
+        laid-long (micOf (keyFor Upstream (upstreamAddress message) (upstreamType message) (keyOf (s .link .key))) Upstream (upstreamOctets message (s .registration)))
+        (upstreamOctets message (s .registration)) t (fitting message) (mic-long _ _) (octets-long message (s .registration) r) h
+
+-- ---- one reply in its place, and all of a frame
+
+module _ (s : Station) (delay : ℕ) (b : List ℕ) (i : ℕ) (r : length (s .registration) ≡ registrationOctets) (fits : messageOctets * i + messageOctets ≤ length b) where
+  one : List ℕ
+  one = wrote s delay (take messageOctets (drop (messageOctets * i) b))
+
+  one-long : length (wrote s delay (take messageOctets (drop (messageOctets * i) b))) ≡ messageOctets
+  one-long = wrote-long s delay (take messageOctets (drop (messageOctets * i) b)) r (omega (arith, length-take messageOctets (drop (messageOctets * i) b), length-drop (messageOctets * i) b))
+
+  front-long : length (take (messageOctets * i) b) ≡ messageOctets * i
+  front-long = omega (arith, length-take (messageOctets * i) b)
+
+  placed-past : drop (messageOctets * i + messageOctets) (inPlace s delay b i) ≡ drop (messageOctets * i + messageOctets) b
+  placed-past =
+      let w = wrote s delay (take messageOctets (drop (messageOctets * i) b)) in
+      let rest = drop messageOctets (drop (messageOctets * i) b) in
+      sym (drop-drop messageOctets (messageOctets * i) (inPlace s delay b i))
+      ∙ ap (drop messageOctets) (drop-at (take (messageOctets * i) b) (w ++ rest) (messageOctets * i) front-long)
+      ∙ drop-at w rest messageOctets one-long
+      ∙ drop-drop messageOctets (messageOctets * i) b
+
+  placed-long : length (inPlace s delay b i) ≡ length b
+  placed-long =
+      let w = wrote s delay (take messageOctets (drop (messageOctets * i) b)) in
+      let rest = drop messageOctets (drop (messageOctets * i) b) in
+      omega (arith, one-long, front-long, length-append (take (messageOctets * i) b) (w ++ rest), length-append w rest, length-drop messageOctets (drop (messageOctets * i) b), length-drop (messageOctets * i) b)
+
+same-registration : (a : Activation) (s : Station) → afterIn a s .registration ≡ s .registration
+same-registration Initial s = refl
+same-registration SerialNumber s = refl
+same-registration (Ranging left) s = refl
+same-registration Operation s = refl
+same-registration (Intermittent left) s = refl
+same-registration EmergencyStop s = refl
+
+after-registration : (s : Station) → afterReply s .registration ≡ s .registration
+unfolding afterReply
+after-registration s = same-registration (s .activation) s
+
+replies-past
+    : (s : Station) (delay : ℕ) (b : List ℕ) (i k : ℕ) → length (s .registration) ≡ registrationOctets → messageOctets * (i + k) ≤ length b
+    → drop (messageOctets * (i + k)) (repliesFrom s delay b i k .octets) ≡ drop (messageOctets * (i + k)) b
+replies-past s delay b i zero r h = refl
+replies-past s delay b i (suc k) r h =
+    let fits : messageOctets * i + messageOctets ≤ length b = omega arith in
+    let c = inPlace s delay b i in
+    let l = placed-long s delay b i r fits in
+    let same : messageOctets * (i + suc k) ≡ messageOctets * (i + 1 + k) = omega arith in
+    let split : messageOctets * (i + 1 + k) ≡ messageOctets * i + messageOctets + messageOctets * k = omega arith in
+    let ih = replies-past (afterReply s) delay c (i + 1) k (ap length (after-registration s) ∙ r) (omega (arith, l)) in
+    rw same
+    (ih ∙ ap (λ (n : ℕ). drop n c) split ∙ sym (drop-drop (messageOctets * k) (messageOctets * i + messageOctets) c)
+    ∙ ap (drop (messageOctets * k)) (placed-past s delay b i r fits)
+    ∙ drop-drop (messageOctets * k) (messageOctets * i + messageOctets) b ∙ ap (λ (n : ℕ). drop n b) (sym split))
+
+-- ---- the frame
+
+Kept : Lent → Left → Type 0
+Kept lent left = drop (messageOctets * left .outcome .replies) (left .lent .replies) ≡ drop (messageOctets * left .outcome .replies) (lent .replies)
+
+handled-kept : (s : Station) (h : Hlend) (f : List ℕ) (delay : ℕ) (lent : Lent) → length (s .registration) ≡ registrationOctets → Room (length f) lent → Kept lent (handled s h f delay lent)
+unfolding Kept handled done repliesIn plannedIn
+handled-kept s h f delay lent r m =
+    replies-past s delay (lent .replies) 0 (messages (plannedIn s h f)) r
+    (omega (arith, m .replies, messages-few (plannedIn s h f), bursts-most (ownOf s) (mapOf h f) (s .carried)))
+
+pub frame-replies-kept
+    : (s : Station) (f : List ℕ) (delay : ℕ) (lent : Lent) → length (s .registration) ≡ registrationOctets
+    → drop (messageOctets * frameLeft s f delay lent .outcome .replies) (frameLeft s f delay lent .lent .replies)
+    ≡ drop (messageOctets * frameLeft s f delay lent .outcome .replies) (lent .replies)
+unfolding Kept frameLeft
+frame-replies-kept s f delay lent r = go (inRange s) (lengthFits (length f)) (buffersFit (length f) lent) refl
+  where
+    by : Room (length f) lent → (x : Found Hlend) → Kept lent (byHlend x s f delay lent)
+    by m unreadable = refl
+    by m short = refl
+    by m (fields h) = fits (leb (headerEnd h) (length f))
+      where
+        fits : (b : Bool) → Kept lent (cond b (handled s h f delay lent) (unread HeaderTooLong s lent))
+        fits true = handled-kept s h f delay lent r m
+        fits false = refl
+
+    go
+        : (a b c : Bool) → buffersFit (length f) lent ≡ c
+        → Kept lent (cond (not a) (refused StateOutOfRange s lent) (cond (not b) (refused FrameLengthUnfit s lent) (cond (not c) (refused BufferTooShort s lent) (byHlend (readHlend f) s f delay lent))))
+    go false b c e = refl
+    go true false c e = refl
+    go true true false e = refl
+    go true true true e = by (room (length f) lent e) (readHlend f)
