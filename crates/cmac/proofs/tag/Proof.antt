@@ -27,11 +27,11 @@ loop-holds : tie.Need-loop-holds Inv-loop μ-loop
 unfolding chainedBy
 loop-holds c = (omega arith, refl)
 
-mul-add-block : tie.Need-mul-add-block Inv-loop μ-loop
-mul-add-block c = omega (arith, c .before .before .before .before .before .good .1 .1 .0)
+mul-add-whole : tie.Need-mul-add-whole Inv-loop μ-loop
+mul-add-whole c = omega (arith, c .before .before .before .before .before .good .1 .1 .0)
 
-add-block-requires : tie.Need-add-block-requires Inv-loop μ-loop
-add-block-requires c κs = omega (arith, c .before .before .before .before .before .good .1 .1 .0)
+add-whole-requires : tie.Need-add-whole-requires Inv-loop μ-loop
+add-whole-requires c κs = omega (arith, c .before .before .before .before .before .good .1 .1 .0, c .before .before .blocks-before .ensures, c .loop-test .taken)
 
 encipher-requires : tie.Need-encipher-requires Inv-loop μ-loop
 encipher-requires c κs = search needs
@@ -50,7 +50,7 @@ loop-again c =
     let b = wordsOf (blockAt (now (args .m)) (at .loop .i * 16)) in (
       omega arith,
       c .encipher .ensures
-          ∙ ap (cipherBy (now (args .t)) ks) (c .before .add-block .ensures ∙ ap (λ (x : Words). added x b) (at .loop .inv .1))
+          ∙ ap (cipherBy (now (args .t)) ks) (c .before .add-whole .ensures ∙ ap (λ (x : Words). added x b) (at .loop .inv .1))
           ∙ sym (next-chained (now (args .t)) ks (now (args .m)) (at .loop .i)),
     )
 
@@ -85,8 +85,8 @@ tag-spec =
     μ-loop
     blocks-before-requires
     loop-holds
-    mul-add-block
-    add-block-requires
+    mul-add-whole
+    add-whole-requires
     encipher-requires
     add-i
     loop-less
