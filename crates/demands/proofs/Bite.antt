@@ -1,7 +1,7 @@
 -- The demands bite: no wrong engine meets them. A station in O2-3, which one frame from power-on leads to, gets a map of two
 -- discovery grants, at words 0 and 100.
 -- Assumes nothing.
-use Prim.Native.Nat.{ℕ, _+_, _≤_}
+use Prim.Native.Nat.{ℕ, _+_, _<_, _≤_, _^_}
 use native.Mathlib.Omega.{arith}
 use mathlib.Core.Path.{_≡_, _∙_, refl, sym, ap, ap₂, subst}
 use mathlib.Core.Logic.{inl}
@@ -9,10 +9,12 @@ use mathlib.Core.Bool.{Bool, true, false, cond, true≢false}
 use mathlib.Core.List.{List, [], _∷_}
 use lib.Dec.{lit<}
 use lib.ListN.{length, getD, take, drop, replicate}
-use Rattle.hec.specs.Reads.{word}
-use Rattle.hec.proofs.Compute.{computed32, computed64}
-use Rattle.hec.proofs.SyndromeRule.{syndromes}
-use Rattle.hec.proofs.FlipRule.{flips}
+use Rattle.hec.specs.Reads.{Reading, word, reading}
+use Rattle.hec.specs.Lent.{readingBy}
+use Rattle.hec.proofs.Compute.{computed32}
+use Rattle.hec.proofs.LentReads.{lent64}
+use Rattle.hec.proofs.SyndromeRule.{syndromes, rule as syndrome-rule}
+use Rattle.hec.proofs.FlipRule.{flips, rule as flip-rule}
 use Rattle.framing.specs.declared.allocation.Allocation.{Allocation}
 use Rattle.framing.specs.declared.hlend.Hlend.{Hlend}
 use Rattle.framing.specs.Layouts.{hlendOf, allocationOf}
@@ -40,6 +42,9 @@ use Rattle.engine.proofs.Table.{only}
 use Rattle.demands.specs.Engine.{Engine, lingbarrow}
 use Rattle.demands.specs.Demand1.{LostRow, Demand1}
 use Rattle.demands.specs.Wrong.{refusesAll, fixedPlan, writesNothing, firstBy, firstOnly, inventedCounts, forgetful, forgetsAllocs}
+
+computed64 : (w : ℕ) → w < 2 ^ 64 → (r : Reading) → readingBy syndromes flips 8 w ≡ r → reading 64 w ≡ r
+computed64 w h r e = sym (lent64 syndromes flips syndrome-rule flip-rule w h) ∙ e
 
 -- ---- the frame of two discovery grants
 

@@ -2,9 +2,10 @@
 -- Assumes nothing.
 use Rattle.engine.proofs.Isolation.{frames-isolated}
 use Rattle.engine.proofs.Counts.{frame-counted}
+use Rattle.engine.proofs.Replies.{frame-replies-kept}
 use Rattle.demands.specs.Engine.{lingbarrow}
 use Rattle.demands.specs.Runs.{lend, runOf}
-use Rattle.demands.specs.Promises.{Isolated, TrueCounts, NeverOutOfRange}
+use Rattle.demands.specs.Promises.{Isolated, TrueCounts, RepliesKept, NeverOutOfRange}
 use Rattle.demands.proofs.Runs.{always-kept, never-out-of-range}
 
 pub isolated : Isolated lingbarrow
@@ -14,6 +15,9 @@ pub true-counts : TrueCounts lingbarrow
 true-counts serial registration memory calls f delay b =
     let st = runOf lingbarrow serial registration memory calls in
     frame-counted (st .station) f delay (lend st b) (always-kept serial registration memory calls .sound)
+
+pub replies-kept : RepliesKept lingbarrow
+replies-kept = frame-replies-kept
 
 pub never-one : NeverOutOfRange lingbarrow
 never-one = never-out-of-range

@@ -55,7 +55,10 @@ laid-long : (mic octets target : List ℕ) (fits : Bool) → length mic ≡ 8 �
 laid-long mic octets target fits m o t = go (fits && leb messageOctets (length target))
   where
     go : (b : Bool) → length (cond b (octets ++ mic ++ drop messageOctets target) target) ≡ messageOctets
-    go true = omega (arith, length-append octets (mic ++ drop messageOctets target), length-append mic (drop messageOctets target), length-drop messageOctets target)
+    go true =
+        let rest = mic ++ drop messageOctets target in
+        length-append octets rest ∙ ap (λ (n : ℕ). n + length rest) o
+        ∙ ap (λ (n : ℕ). 40 + n) (length-append mic (drop messageOctets target) ∙ ap (λ (n : ℕ). n + length (drop messageOctets target)) m ∙ ap (λ (n : ℕ). 8 + n) (length-drop messageOctets target ∙ ap (λ (n : ℕ). n - messageOctets) t))
     go false = t
 
 wrote-long : (s : Station) (delay : ℕ) (t : List ℕ) → length (s .registration) ≡ registrationOctets → length t ≡ messageOctets → length (wrote s delay t) ≡ messageOctets
