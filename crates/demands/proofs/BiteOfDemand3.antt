@@ -21,10 +21,13 @@ use Rattle.station.specs.Station.{powerOn}
 use Rattle.bwmap.specs.Laser.{opens, granted, sending}
 use Rattle.conduct.proofs.InRange.{sound-in-range, power-on-sound}
 use Rattle.engine.specs.Lengths.{Lent, lengthFits, enough}
-use Rattle.engine.specs.Frame.{Left, handled, frameLeft}
+use Rattle.timing.specs.Timing.{frameEnd}
+use Rattle.engine.specs.Frame.{Left, plannedIn, repliesIn, payloadIn, sentBy as foundBy, next, done, handled, frameLeft}
 use Rattle.engine.specs.Answers.{Passed, lostIn, Handled}
 use Rattle.engine.proofs.Table.{only}
-use Rattle.demands.specs.Runs.{Buffers, start, lend}
+use Rattle.demands.specs.Engine.{lingbarrow}
+use Rattle.demands.specs.Runs.{Buffers, frame, start, lend, runOf}
+use Rattle.demands.proofs.Bite.{searching}
 use Rattle.demands.specs.Demand3.{Demand3}
 use Rattle.demands.specs.Wrong.{fixedPlan}
 
@@ -65,3 +68,15 @@ unfolding lent opens granted sending
 fixed-plan-sends-in-o1 d =
     let plans = d .plans [] [] memory [] bare 0 buffers (inl answer-bare) noEntries reads-bare in
     true≢false (plans .each .0 .sends)
+
+-- ---- the state in O2-3, over which the other wrong engines are refuted, is one frame from power-on
+
+handled-left : handled (powerOn [] []) noEntries bare 0 lent .outcome .station ≡ searching
+unfolding handled done foundBy next plannedIn repliesIn payloadIn bare noEntries searching frameEnd
+handled-left = refl
+
+pub one-frame-away : runOf lingbarrow [] [] memory (frame bare 0 buffers ∷ []) .station ≡ searching
+unfolding lent
+one-frame-away =
+    let o = only (powerOn [] []) bare 0 lent Done (handled (powerOn [] []) noEntries bare 0 lent) handled-bare in
+    ap (λ (x : Left). x .outcome .station) (sym (o .0)) ∙ handled-left

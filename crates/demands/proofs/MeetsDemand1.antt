@@ -1,13 +1,20 @@
 -- This engine meets demand 1.
 -- Assumes nothing.
-use Prim.Native.Nat.{ℕ}
-use mathlib.Core.Path.{_≡_, refl}
-use mathlib.Core.Bool.{Bool, true, false, not, cond}
+use Prim.Native.Nat.{ℕ, _≤_}
+use mathlib.Core.Path.{_≡_, refl, sym, subst}
+use mathlib.Core.Bool.{Bool, true, false, not, cond, _&&_}
 use mathlib.Core.List.{List}
+use lib.Dec.{eqb, leb}
+use lib.ListN.{length}
+use borrow.Author.Tests.{leb-true, leb-false}
+use Rattle.ids.specs.Ids.{managementPort}
+use Rattle.framing.specs.declared.hlend.Hlend.{Hlend}
+use Rattle.framing.specs.Reads.{Found, fields, unreadable, short, readHlend}
 use Rattle.ids.specs.declared.PortId.{PortId}
 use Rattle.ids.specs.Ids.{assignablePort}
+use Rattle.station.specs.declared.answers.Answer.{Answer}
 use Rattle.station.specs.declared.Station.{Station}
-use Rattle.station.specs.declared.answers.Answer.the-variants.{Done, StateOutOfRange, PortOutOfRange, PortHeldOrNotHeld, SlotsTaken, KeyRefused}
+use Rattle.station.specs.declared.answers.Answer.the-variants.{Done, StateOutOfRange, FrameLengthUnfit, HeaderTooLong, DelineationLost, PortOutOfRange, PortHeldOrNotHeld, SlotsTaken, KeyRefused}
 use Rattle.station.specs.States.{holdsIdentity}
 use Rattle.station.specs.Held.{withKey, installed}
 use Rattle.station.specs.Slots.{portPlace, vacancy, addPort, removePort}
@@ -16,10 +23,17 @@ use Rattle.ranges.specs.Ranges.{inRange}
 use Rattle.timing.specs.Timing.{lostTime}
 use Rattle.host.specs.declared.Outcome.{Outcome}
 use Rattle.host.specs.Host.{found, outcome, answerToAdd, answerToRemove, answerToKey, afterAdd, afterRemove, afterKey}
+use Rattle.payload.specs.Frames.{parse}
+use Rattle.payload.specs.Stretch.{stretchOf}
+use Rattle.engine.specs.Lengths.{lengthFits}
+use Rattle.engine.specs.Partitions.{headerEnd, payloadOf}
+use Rattle.engine.specs.Frame.{isOperating}
 use Rattle.engine.specs.Times.{lostLeft}
-use Rattle.engine.proofs.Table.{table}
+use Rattle.engine.specs.declared.alone.StretchPlace.{StretchPlace}
+use Rattle.engine.specs.Stretch.{empty, answerIf, inFrame, placeIn, placeBy, stretchPlace}
+use Rattle.engine.proofs.Table.{table, not-short}
 use Rattle.demands.specs.Engine.{lingbarrow}
-use Rattle.demands.specs.Demand1.{LostRow, AddRow, RemoveRow, KeyRow, Demand1}
+use Rattle.demands.specs.Demand1.{LostRow, AddRow, RemoveRow, KeyRow, Placed, StretchRow, Demand1}
 
 lost-row : (s : Station) → LostRow s (lostLeft s .answer) (lostLeft s .station)
 unfolding lostLeft
@@ -70,5 +84,54 @@ key-row s octets = go (inRange s) refl (holdsIdentity (s .activation)) refl
     go true p true q = (p, q, refl)
     go true p false q = (p, q, refl)
 
+-- ---- the stretch
+
+empty-answer : (b : Bool) (n at : ℕ) (answer : Answer) → cond {A = StretchPlace} b (empty answer) (record { answer = answer; at = at; bytes = n }) .answer ≡ answer
+empty-answer true n at answer = refl
+empty-answer false n at answer = refl
+
+place-answer : (s : Station) (h : Hlend) (f : List ℕ) (k : ℕ) → placeIn s h f k .answer ≡ cond (isOperating (s .activation) && parse 0 (payloadOf h f) .lost) DelineationLost Done
+unfolding placeIn stretchOf
+place-answer s h f k = go (isOperating (s .activation))
+  where
+    go : (b : Bool) → cond {A = StretchPlace} b (inFrame (headerEnd h) (stretchOf (managementPort (s .link .onu)) (s .ports) (payloadOf h f) k)) (empty Done) .answer ≡ cond (b && parse 0 (payloadOf h f) .lost) DelineationLost Done
+    go true = empty-answer (eqb (stretchOf (managementPort (s .link .onu)) (s .ports) (payloadOf h f) k .stretch .bytes) 0) _ _ (answerIf (parse 0 (payloadOf h f) .lost))
+    go false = refl
+
+module _ (s : Station) (f : List ℕ) (k : ℕ) where
+  abbrev StretchRowed : StretchPlace → Type 0
+  StretchRowed p = StretchRow s f k (p .answer) p
+
+  placed-row : inRange s ≡ true → lengthFits (length f) ≡ true → (h : Hlend) → readHlend f ≡ fields h → headerEnd h ≤ length f → StretchRowed (placeIn s h f k)
+  placed-row a b h e fits =
+      subst (λ (x : Answer). StretchRow s f k x (placeIn s h f k)) (sym (place-answer s h f k)) (go (isOperating (s .activation) && parse 0 (payloadOf h f) .lost) refl)
+    where
+      whole : (l : Bool) → (isOperating (s .activation) && parse 0 (payloadOf h f) .lost) ≡ l → Placed s f k l (placeIn s h f k)
+      whole l q = record { state = a; frame = b; hlend = h; reads = e; fits = fits; delineation = q; place = refl }
+
+      go : (l : Bool) → (isOperating (s .activation) && parse 0 (payloadOf h f) .lost) ≡ l → StretchRow s f k (cond l DelineationLost Done) (placeIn s h f k)
+      go true q = whole true q
+      go false q = whole false q
+
+  by-hlend : inRange s ≡ true → lengthFits (length f) ≡ true → (r : Found Hlend) → readHlend f ≡ r → StretchRowed (placeBy r s f k)
+  by-hlend a b unreadable e = (a, b, e, refl)
+  by-hlend a b short e = absurd (not-short f b e)
+  by-hlend a b (fields h) e = go (leb (headerEnd h) (length f)) refl
+    where
+      go : (c : Bool) → leb (headerEnd h) (length f) ≡ c → StretchRowed (cond c (placeIn s h f k) (empty HeaderTooLong))
+      go true q = placed-row a b h e (leb-true (headerEnd h) (length f) q)
+      go false q = record { state = a; frame = b; hlend = h; reads = e; longer = leb-false (headerEnd h) (length f) q; place = refl }
+
+  stretch-row : StretchRowed (stretchPlace s f k)
+  unfolding stretchPlace
+  stretch-row = go (inRange s) refl (lengthFits (length f)) refl
+    where
+      go
+          : (a : Bool) → inRange s ≡ a → (b : Bool) → lengthFits (length f) ≡ b
+          → StretchRowed (cond (not a) (empty StateOutOfRange) (cond (not b) (empty FrameLengthUnfit) (placeBy (readHlend f) s f k)))
+      go false p b q = (p, refl)
+      go true p false q = (p, q, refl)
+      go true p true q = by-hlend p q (readHlend f) refl
+
 pub meets-demand-1 : Demand1 lingbarrow
-meets-demand-1 = record { frame = table; lost = lost-row; add = add-row; remove = remove-row; key = key-row }
+meets-demand-1 = record { frame = table; lost = lost-row; add = add-row; remove = remove-row; key = key-row; stretch = stretch-row }

@@ -2,10 +2,13 @@
 -- each number it is fixed what the state and the buffers hold afterwards. The caller is never asked to have checked."
 -- No hypothesis stands before a row: the caller grants nothing.
 -- Assumes nothing.
-use Prim.Native.Nat.{ℕ}
+use Prim.Native.Nat.{ℕ, _≤_, _<_}
 use mathlib.Core.Path.{_≡_}
-use mathlib.Core.Bool.{true, false}
+use mathlib.Core.Bool.{Bool, true, false, _&&_}
 use mathlib.Core.List.{List}
+use lib.ListN.{length}
+use Rattle.framing.specs.declared.hlend.Hlend.{Hlend}
+use Rattle.framing.specs.Reads.{fields, unreadable, readHlend}
 use Rattle.ids.specs.declared.PortId.{PortId}
 use Rattle.ids.specs.Ids.{assignablePort}
 use Rattle.station.specs.declared.Station.{Station}
@@ -19,9 +22,13 @@ use Rattle.ranges.specs.Ranges.{inRange}
 use Rattle.timing.specs.Timing.{lostTime}
 use Rattle.host.specs.declared.Outcome.{Outcome}
 use Rattle.host.specs.Host.{found}
-use Rattle.engine.specs.Lengths.{Lent}
-use Rattle.engine.specs.Frame.{Left}
+use Rattle.payload.specs.Frames.{parse}
+use Rattle.engine.specs.Lengths.{Lent, lengthFits}
+use Rattle.engine.specs.Partitions.{headerEnd, payloadOf}
+use Rattle.engine.specs.Frame.{isOperating}
 use Rattle.engine.specs.Answers.{Row}
+use Rattle.engine.specs.declared.alone.StretchPlace.{StretchPlace}
+use Rattle.engine.specs.Stretch.{empty, placeIn}
 use Rattle.demands.specs.Engine.{Engine}
 
 -- the lost frame time: 0, or 1 with nothing changed
@@ -91,9 +98,43 @@ KeyRow s octets PortHeldOrNotHeld next = ⊥
 KeyRow s octets SlotsTaken next = ⊥
 KeyRow s octets NotWritten next = ⊥
 
+-- where an unfragmented SDU stands in the frame: the frame call's numbers without 3, and no stretch after 1, 2, 4 and 5
+pub record Placed (s : Station) (f : List ℕ) (k : ℕ) (lost : Bool) (p : StretchPlace) : Type 0 where
+  pub state : inRange s ≡ true
+  pub frame : lengthFits (length f) ≡ true
+  pub hlend : Hlend
+  pub reads : readHlend f ≡ fields hlend
+  pub fits : headerEnd hlend ≤ length f
+  pub delineation : (isOperating (s .activation) && parse 0 (payloadOf hlend f) .lost) ≡ lost
+  pub place : p ≡ placeIn s hlend f k
+
+pub record NoPlace (s : Station) (f : List ℕ) (p : StretchPlace) : Type 0 where
+  pub state : inRange s ≡ true
+  pub frame : lengthFits (length f) ≡ true
+  pub hlend : Hlend
+  pub reads : readHlend f ≡ fields hlend
+  pub longer : length f < headerEnd hlend
+  pub place : p ≡ empty HeaderTooLong
+
+abbrev pub StretchRow : Station → List ℕ → ℕ → Answer → StretchPlace → Type 0
+StretchRow s f k Done p = Placed s f k false p
+StretchRow s f k StateOutOfRange p = (inRange s ≡ false) × (p ≡ empty StateOutOfRange)
+StretchRow s f k FrameLengthUnfit p = (inRange s ≡ true) × (lengthFits (length f) ≡ false) × (p ≡ empty FrameLengthUnfit)
+StretchRow s f k HlendUnreadable p =
+    (inRange s ≡ true) × (lengthFits (length f) ≡ true) × (readHlend f ≡ unreadable) × (p ≡ empty HlendUnreadable)
+StretchRow s f k HeaderTooLong p = NoPlace s f p
+StretchRow s f k DelineationLost p = Placed s f k true p
+StretchRow s f k BufferTooShort p = ⊥
+StretchRow s f k PortOutOfRange p = ⊥
+StretchRow s f k PortHeldOrNotHeld p = ⊥
+StretchRow s f k SlotsTaken p = ⊥
+StretchRow s f k KeyRefused p = ⊥
+StretchRow s f k NotWritten p = ⊥
+
 pub record Demand1 (E : Engine) : Type 0 where
   pub frame : (s : Station) (f : List ℕ) (delay : ℕ) (lent : Lent) → Row s f delay lent (E .frame s f delay lent .outcome .answer) (E .frame s f delay lent)
   pub lost : (s : Station) → LostRow s (E .lost s .answer) (E .lost s .station)
   pub add : (s : Station) (port : PortId) → AddRow s port (E .addPort s port .answer) (E .addPort s port .station)
   pub remove : (s : Station) (port : PortId) → RemoveRow s port (E .removePort s port .answer) (E .removePort s port .station)
   pub key : (s : Station) (octets : List ℕ) → KeyRow s octets (E .giveKey s octets .answer) (E .giveKey s octets .station)
+  pub stretch : (s : Station) (f : List ℕ) (k : ℕ) → StretchRow s f k (E .stretchPlace s f k .answer) (E .stretchPlace s f k)

@@ -11,6 +11,8 @@ use Rattle.host.specs.Host.{afterAdd, afterRemove, afterKey}
 use Rattle.engine.specs.Lengths.{Lent}
 use Rattle.engine.specs.Frame.{Left, frameLeft}
 use Rattle.engine.specs.Times.{lostLeft}
+use Rattle.engine.specs.declared.alone.StretchPlace.{StretchPlace}
+use Rattle.engine.specs.Stretch.{stretchPlace}
 
 pub record Engine : Type 0 where
   pub powerOn : List ℕ → List ℕ → Station
@@ -19,6 +21,7 @@ pub record Engine : Type 0 where
   pub addPort : Station → PortId → Outcome
   pub removePort : Station → PortId → Outcome
   pub giveKey : Station → List ℕ → Outcome
+  pub stretchPlace : Station → List ℕ → ℕ → StretchPlace
 
 -- this one: each definition is the right side of the public call's contract
 abbrev pub lingbarrow : Engine
@@ -30,4 +33,5 @@ lingbarrow =
       addPort = afterAdd;
       removePort = afterRemove;
       giveKey = afterKey;
+      stretchPlace = stretchPlace;
     }

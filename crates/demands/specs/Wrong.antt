@@ -27,6 +27,7 @@ withFrame call =
       addPort = lingbarrow .addPort;
       removePort = lingbarrow .removePort;
       giveKey = lingbarrow .giveKey;
+      stretchPlace = lingbarrow .stretchPlace;
     }
 
 abbrev pub counting : ℕ → List ℕ → Left → Left
@@ -74,4 +75,5 @@ forgetsAllocs =
       addPort = lingbarrow .addPort;
       removePort = lingbarrow .removePort;
       giveKey = lingbarrow .giveKey;
+      stretchPlace = lingbarrow .stretchPlace;
     }

@@ -45,6 +45,20 @@ done-answer s h f delay lent = go (isOperating (s .activation))
     go true = answer-lost (parse (headerEnd h) (payloadOf h f) .lost)
     go false = refl
 
+-- a frame that passed answer 2 is not too short for HLend
+pub not-short : (f : List ℕ) → lengthFits (length f) ≡ true → readHlend f ≡ short → ⊥
+unfolding lengthFits
+not-short f h e = nowhere (reading 32 (value (take 4 f))) (rw (both (leb 4 (length f)) _ h .0) at e)
+  where
+    isShort : Found Hlend → Bool
+    isShort (fields h) = false
+    isShort unreadable = false
+    isShort short = true
+
+    nowhere : (r : Reading) → taken hlendOf r ≡ short → ⊥
+    nowhere (word v) t = false≢true (ap isShort t)
+    nowhere unreadable-word t = false≢true (ap isShort t)
+
 -- ---- the number has its row
 
 module _ (s : Station) (f : List ℕ) (delay : ℕ) (lent : Lent) where
@@ -62,23 +76,9 @@ module _ (s : Station) (f : List ℕ) (delay : ℕ) (lent : Lent) where
       go true q = whole true q
       go false q = whole false q
 
-  -- a frame that passed answer 2 is not too short for HLend
-  not-short : lengthFits (length f) ≡ true → readHlend f ≡ short → ⊥
-  unfolding lengthFits
-  not-short h e = nowhere (reading 32 (value (take 4 f))) (rw (both (leb 4 (length f)) _ h .0) at e)
-    where
-      isShort : Found Hlend → Bool
-      isShort (fields h) = false
-      isShort unreadable = false
-      isShort short = true
-
-      nowhere : (r : Reading) → taken hlendOf r ≡ short → ⊥
-      nowhere (word v) t = false≢true (ap isShort t)
-      nowhere unreadable-word t = false≢true (ap isShort t)
-
   hlend-row : Passed s f lent → (r : Found Hlend) → readHlend f ≡ r → Rowed (byHlend r s f delay lent)
   hlend-row p unreadable e = (p, e, refl)
-  hlend-row p short e = absurd (not-short (p .frame) e)
+  hlend-row p short e = absurd (not-short f (p .frame) e)
   hlend-row p (fields h) e = go (leb (headerEnd h) (length f)) refl
     where
       go : (b : Bool) → leb (headerEnd h) (length f) ≡ b → Rowed (cond b (handled s h f delay lent) (unread HeaderTooLong s lent))
