@@ -56,9 +56,9 @@ laid-long mic octets target fits m o t = go (fits && leb messageOctets (length t
   where
     go : (b : Bool) → length (cond b (octets ++ mic ++ drop messageOctets target) target) ≡ messageOctets
     go true =
-        let rest = mic ++ drop messageOctets target in
-        length-append octets rest ∙ ap (λ (n : ℕ). n + length rest) o
-        ∙ ap (λ (n : ℕ). 40 + n) (length-append mic (drop messageOctets target) ∙ ap (λ (n : ℕ). n + length (drop messageOctets target)) m ∙ ap (λ (n : ℕ). 8 + n) (length-drop messageOctets target ∙ ap (λ (n : ℕ). n - messageOctets) t))
+        let e : length ((octets ++ mic) ++ drop messageOctets target) ≡ messageOctets
+            = omega (arith, length-append (octets ++ mic) (drop messageOctets target), length-append octets mic, length-drop messageOctets target) in
+        e
     go false = t
 
 wrote-long : (s : Station) (delay : ℕ) (t : List ℕ) → length (s .registration) ≡ registrationOctets → length t ≡ messageOctets → length (wrote s delay t) ≡ messageOctets
