@@ -54,7 +54,7 @@ two = 0 ∷ 64 ∷ 13 ∷ 43 ∷ 15 ∷ 253 ∷ 0 ∷ 0 ∷ 0 ∷ 0 ∷ 8 ∷ 20
 lent : Lent
 lent = record { memory = replicate 34816 0; plan = replicate 256 0; replies = replicate 192 0; deliveries = replicate 34836 0 }
 
-pub searching : Station
+unfoldable pub searching : Station
 searching = enter (powerOn [] []) SerialNumber
 
 twoEntries : Hlend

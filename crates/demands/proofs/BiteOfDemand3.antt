@@ -31,13 +31,13 @@ use Rattle.demands.proofs.Bite.{searching}
 use Rattle.demands.specs.Demand3.{Demand3}
 use Rattle.demands.specs.Wrong.{fixedPlan}
 
-bare : List ℕ
+pub bare : List ℕ
 bare = 0 ∷ 0 ∷ 0 ∷ 0 ∷ []
 
-memory : List ℕ
+pub memory : List ℕ
 memory = replicate 34816 0
 
-buffers : Buffers
+pub buffers : Buffers
 buffers = record { plan = replicate 256 0; replies = replicate 192 0; deliveries = replicate 34820 0 }
 
 lent : Lent

@@ -41,8 +41,8 @@ meets-demand-2 =
       xgem = xgem-written-read;
       frame = frame-written-read;
       message = λ installed message id target n l h.
-        let a = round-trip installed message id target n l h in
-        record { address = a .address; type = a .type; seqNo = a .seqNo; content = a .content; said = a .said; right = a .right };
+          let a = round-trip installed message id target n l h in
+          record { address = a .address; type = a .type; seqNo = a .seqNo; content = a .content; said = a .said; right = a .right };
       signed = signed-right;
       integrity = unheeded;
     }

@@ -2,7 +2,7 @@
 -- Assumes nothing.
 use Prim.Native.Nat.{ℕ, zero, suc, _+_, _-_, _*_, _≤_}
 use native.Mathlib.Omega.{arith}
-use mathlib.Core.Path.{_≡_, _∙_, refl, sym, ap}
+use mathlib.Core.Path.{_≡_, _∙_, refl, sym, ap, subst}
 use mathlib.Core.Bool.{Bool, true, false, not, cond, _&&_}
 use mathlib.Core.List.{List, [], _∷_, _++_}
 use lib.Dec.{leb}
@@ -15,7 +15,8 @@ use Rattle.framing.specs.Reads.{Found, fields, unreadable, short, readHlend}
 use Rattle.ploam.specs.Layout.{messageOctets}
 use Rattle.ploam.specs.Integrity.{micOf, keyFor}
 use Rattle.ploam.specs.Upstream.{upstreamAddress, upstreamType, upstreamContent, upstreamOctets, fitting}
-use Rattle.ploam.specs.Writing.{laid, written}
+use Rattle.ploam.specs.Writing.{Outcome, laid, written}
+use Rattle.ploam.specs.declared.Written.the-variants.{Done, Unfit}
 use Rattle.ploam.specs.declared.Direction.the-variants.{Upstream}
 use Rattle.ploam.specs.declared.UpstreamMessage.{UpstreamMessage}
 use Rattle.ploam.specs.declared.UpstreamMessage.the-variants.{SerialNumberOnu, Registration, Acknowledgement}
@@ -54,10 +55,12 @@ mic-long key m = refl
 laid-long : (mic octets target : List ℕ) (fits : Bool) → length mic ≡ 8 → length octets ≡ 40 → length target ≡ messageOctets → length (laid mic fits octets target .target) ≡ messageOctets
 laid-long mic octets target fits m o t = go (fits && leb messageOctets (length target))
   where
-    go : (b : Bool) → length (cond b (octets ++ mic ++ drop messageOctets target) target) ≡ messageOctets
+    go
+        : (b : Bool)
+        → length (cond {A = Outcome} b (record { answer = Done; target = octets ++ mic ++ drop messageOctets target }) (record { answer = Unfit; target = target }) .target) ≡ messageOctets
     go true =
         let e : length ((octets ++ mic) ++ drop messageOctets target) ≡ messageOctets
-            = omega (arith, length-append (octets ++ mic) (drop messageOctets target), length-append octets mic, length-drop messageOctets target) in
+        = omega (arith, length-append (octets ++ mic) (drop messageOctets target), length-append octets mic, length-drop messageOctets target) in
         e
     go false = t
 
@@ -134,8 +137,10 @@ Kept lent left = drop (messageOctets * left .outcome .replies) (left .lent .repl
 handled-kept : (s : Station) (h : Hlend) (f : List ℕ) (delay : ℕ) (lent : Lent) → length (s .registration) ≡ registrationOctets → Room (length f) lent → Kept lent (handled s h f delay lent)
 unfolding Kept handled done repliesIn plannedIn
 handled-kept s h f delay lent r m =
-    replies-past s delay (lent .replies) 0 (messages (plannedIn s h f)) r
-    (omega (arith, m .replies, messages-few (plannedIn s h f), bursts-most (ownOf s) (mapOf h f) (s .carried)))
+    let z : 0 + messages (plannedIn s h f) ≡ messages (plannedIn s h f) = omega arith in
+    subst (λ (n : ℕ). drop (messageOctets * n) (repliesFrom s delay (lent .replies) 0 (messages (plannedIn s h f)) .octets) ≡ drop (messageOctets * n) (lent .replies)) z
+    (replies-past s delay (lent .replies) 0 (messages (plannedIn s h f)) r
+    (omega (arith, m .replies, messages-few (plannedIn s h f), bursts-most (ownOf s) (mapOf h f) (s .carried))))
 
 pub frame-replies-kept
     : (s : Station) (f : List ℕ) (delay : ℕ) (lent : Lent) → length (s .registration) ≡ registrationOctets
