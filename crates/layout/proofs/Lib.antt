@@ -2,3 +2,4 @@ pub mod Laws
 pub mod Answers
 pub mod Fields
 pub mod RoundTrips
+pub mod Refused

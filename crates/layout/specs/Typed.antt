@@ -14,21 +14,25 @@ abbrev pub Every : {A : Type 0} → (A → Type 0) → List A → Type 0
 Every ok [] = Unit {0}
 Every ok (a ∷ l) = ok a × Every ok l
 
-pub record Typed (s : Station) : Type 0 where
-  pub left : timeLeft (s .activation) < 256 ^ 4
+-- the arrays have their lengths
+pub record Sized (s : Station) : Type 0 where
   pub serial : length (s .serial) ≡ 8
   pub registration : length (s .registration) ≡ 36
-  pub onu : s .link .onu .0 < 256 ^ 2
   pub allocs : length (s .link .allocs .ids) ≡ 16
+  pub key : length (s .link .key .octets) ≡ 16
+  pub answers : length (s .link .owed .answers) ≡ 8
+  pub ports : length (s .ports .ids) ≡ 16
+  pub lengths : length (s .ports .lengths) ≡ 17
+  pub waiting : length (s .ports .waiting) ≡ 17
+
+pub record Typed (s : Station) : Type 0 where
+  pub sized : Sized s
+  pub left : timeLeft (s .activation) < 256 ^ 4
+  pub onu : s .link .onu .0 < 256 ^ 2
   pub alloc-ids : Every (λ (id : AllocId). id .0 < 256 ^ 2) (s .link .allocs .ids)
   pub alloc-count : s .link .allocs .count < 256 ^ 1
   pub delay : s .link .delay < 256 ^ 4
-  pub key : length (s .link .key .octets) ≡ 16
-  pub answers : length (s .link .owed .answers) ≡ 8
   pub owed-count : s .link .owed .count < 256 ^ 1
-  pub ports : length (s .ports .ids) ≡ 16
   pub port-ids : Every (λ (id : PortId). id .0 < 256 ^ 2) (s .ports .ids)
-  pub lengths : length (s .ports .lengths) ≡ 17
   pub partials : Every (λ (bytes : ℕ). bytes < 256 ^ 2) (s .ports .lengths)
-  pub waiting : length (s .ports .waiting) ≡ 17
   pub carried : s .carried < 256 ^ 2

@@ -1,3 +1,5 @@
+-- `layout::same_octets` meets its contract.
+-- Assumes nothing.
 use mathlib.Core.Path.{_≡_, refl, sym, ap, _∙_}
 use native.Mathlib.Omega.{arith}
 use borrow.Author.Needs.{needs}
@@ -9,8 +11,6 @@ use Rattle.ploam.specs.Integrity.{same}
 use Rattle.ploam.proofs.Same.{same-more, same-not, same-end}
 use Rattle.layout.proofs.same_octets.Statement.{statement}
 use Rattle.layout.proofs.same_octets.Tie as tie
-use Rattle.layout.proofs.same_octets.Reads as reads
-use Rattle.layout.proofs.same_octets.Lts as lts
 
 abbrev Inv-loop : tie.InvT-loop
 Inv-loop b a i₀ i = (i ≤ 208) × (length a ≡ 208) × (same (drop i a) (drop i (take 208 b)) ≡ same a (take 208 b))
@@ -18,41 +18,33 @@ Inv-loop b a i₀ i = (i ≤ 208) × (length a ≡ 208) × (same (drop i a) (dro
 abbrev μ-loop : tie.MeasureT-loop
 μ-loop b a i₀ i = 208 - i
 
--- src/lib.rt:33:5
 loop-holds : tie.Need-loop-holds Inv-loop μ-loop
 loop-holds c = (omega arith, search needs, refl)
 
--- src/lib.rt:34:12
 array-read-if1 : tie.Need-array-read-if1 Inv-loop μ-loop
 array-read-if1 c = search needs
 
--- src/lib.rt:34:20
 shared-slice-read-if1 : tie.Need-shared-slice-read-if1 Inv-loop μ-loop
 shared-slice-read-if1 c = search needs
 
--- src/lib.rt:35:13
 returns : tie.Need-returns Inv-loop μ-loop
 returns c =
     let b = now (c .before .before .before .before .args .b) in
     let w = length-take-le 208 b (c .before .before .before .before .pre) in
     same-not (c .before .before .before .before .args .t1) (take 208 b) (c .before .before .before .loop .i) (omega (arith, c .before .before .before .loop .inv .1)) (omega (arith, w)) (λ e. c .if1 .taken (e ∙ getD-take 208 b (c .before .before .before .loop .i) 0 (omega arith))) ∙ c .before .before .before .loop .inv .2
 
--- src/lib.rt:37:9
 add-i : tie.Need-add-i Inv-loop μ-loop
 add-i c = search needs
 
--- src/lib.rt:33:5
 loop-less : tie.Need-loop-less Inv-loop μ-loop
 loop-less c = search needs
 
--- src/lib.rt:33:5
 loop-again : tie.Need-loop-again Inv-loop μ-loop
 loop-again c =
     let b = now (c .before .before .before .before .args .b) in
     let w = length-take-le 208 b (c .before .before .before .before .pre) in
     (omega arith, c .before .before .before .loop .inv .1, same-more (c .before .before .before .before .args .t1) (take 208 b) (c .before .before .before .loop .i) (omega (arith, c .before .before .before .loop .inv .1)) (omega (arith, w)) (c .if1 .left ∙ sym (getD-take 208 b (c .before .before .before .loop .i) 0 (omega arith))) ∙ c .before .before .before .loop .inv .2)
 
--- src/lib.rt:28:1
 returns-2 : tie.Need-returns-2 Inv-loop μ-loop
 returns-2 c =
     let b = now (c .before .before .args .b) in

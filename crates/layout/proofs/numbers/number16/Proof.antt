@@ -1,3 +1,5 @@
+-- `layout::numbers::number16` meets its contract.
+-- Assumes nothing.
 use mathlib.Core.Path.{_≡_, refl, sym, ap, _∙_}
 use native.Mathlib.Omega.{arith}
 use denote.Ref.{now}
@@ -5,35 +7,25 @@ use Rattle.layout.proofs.Laws.{value-two}
 use borrow.Author.Needs.{needs}
 use Rattle.layout.proofs.numbers.number16.Statement.{statement}
 use Rattle.layout.proofs.numbers.number16.Tie as tie
-use Rattle.layout.proofs.numbers.number16.Reads as reads
-use Rattle.layout.proofs.numbers.number16.Lts as lts
-use Rattle.layout.proofs.numbers.wide16.Reads as wide16-reads
 
--- src/numbers.rt:31:12
 shared-slice-read-wide16 : tie.Need-shared-slice-read-wide16
 shared-slice-read-wide16 c = search needs
 
--- src/numbers.rt:31:5
 wide16-requires : tie.Need-wide16-requires
 wide16-requires c κs = search needs
 
--- src/numbers.rt:31:5
 mul-result : tie.Need-mul-result
 mul-result c = search needs
 
--- src/numbers.rt:31:35
 shared-slice-read-wide16-2 : tie.Need-shared-slice-read-wide16-2
 shared-slice-read-wide16-2 c = search needs
 
--- src/numbers.rt:31:28
 wide16-requires-2 : tie.Need-wide16-requires-2
 wide16-requires-2 c κs = search needs
 
--- src/numbers.rt:31:5
 add-result : tie.Need-add-result
 add-result c = search needs
 
--- src/numbers.rt:27:1
 returns : tie.Need-returns
 returns c = omega (arith, value-two (now (c .before .before .before .before .before .args .c)) (c .before .before .before .before .before .pre))
 

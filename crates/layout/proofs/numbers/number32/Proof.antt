@@ -1,3 +1,5 @@
+-- `layout::numbers::number32` meets its contract.
+-- Assumes nothing.
 use mathlib.Core.Path.{_≡_, refl, sym, ap, _∙_}
 use native.Mathlib.Omega.{arith}
 use denote.Ref.{now}
@@ -5,67 +7,49 @@ use Rattle.layout.proofs.Laws.{value-four}
 use borrow.Author.Needs.{needs}
 use Rattle.layout.proofs.numbers.number32.Statement.{statement}
 use Rattle.layout.proofs.numbers.number32.Tie as tie
-use Rattle.layout.proofs.numbers.number32.Reads as reads
-use Rattle.layout.proofs.numbers.number32.Lts as lts
-use Rattle.layout.proofs.numbers.wide32.Reads as wide32-reads
 
--- src/numbers.rt:38:12
 shared-slice-read-wide32 : tie.Need-shared-slice-read-wide32
 shared-slice-read-wide32 c = search needs
 
--- src/numbers.rt:38:5
 wide32-requires : tie.Need-wide32-requires
 wide32-requires c κs = search needs
 
--- src/numbers.rt:38:5
 mul-result : tie.Need-mul-result
 mul-result c = search needs
 
--- src/numbers.rt:38:41
 shared-slice-read-wide32-2 : tie.Need-shared-slice-read-wide32-2
 shared-slice-read-wide32-2 c = search needs
 
--- src/numbers.rt:38:34
 wide32-requires-2 : tie.Need-wide32-requires-2
 wide32-requires-2 c κs = search needs
 
--- src/numbers.rt:38:34
 mul-result-2 : tie.Need-mul-result-2
 mul-result-2 c = search needs
 
--- src/numbers.rt:38:68
 shared-slice-read-wide32-3 : tie.Need-shared-slice-read-wide32-3
 shared-slice-read-wide32-3 c = search needs
 
--- src/numbers.rt:38:61
 wide32-requires-3 : tie.Need-wide32-requires-3
 wide32-requires-3 c κs = search needs
 
--- src/numbers.rt:38:61
 mul-result-3 : tie.Need-mul-result-3
 mul-result-3 c = search needs
 
--- src/numbers.rt:38:91
 shared-slice-read-wide32-4 : tie.Need-shared-slice-read-wide32-4
 shared-slice-read-wide32-4 c = search needs
 
--- src/numbers.rt:38:84
 wide32-requires-4 : tie.Need-wide32-requires-4
 wide32-requires-4 c κs = search needs
 
--- src/numbers.rt:38:61
 add-result : tie.Need-add-result
 add-result c = search needs
 
--- src/numbers.rt:38:34
 add-result-2 : tie.Need-add-result-2
 add-result-2 c = search needs
 
--- src/numbers.rt:38:5
 add-result-3 : tie.Need-add-result-3
 add-result-3 c = search needs
 
--- src/numbers.rt:34:1
 returns : tie.Need-returns
 returns c = omega (arith, value-four (now (c .before .before .before .before .before .before .before .before .before .args .c)) (c .before .before .before .before .before .before .before .before .before .pre))
 

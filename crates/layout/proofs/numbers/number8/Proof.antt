@@ -1,3 +1,5 @@
+-- `layout::numbers::number8` meets its contract.
+-- Assumes nothing.
 use mathlib.Core.Path.{_≡_, refl, sym, ap, _∙_}
 use native.Mathlib.Omega.{arith}
 use denote.Ref.{now}
@@ -5,14 +7,10 @@ use Rattle.layout.proofs.Laws.{value-one}
 use borrow.Author.Needs.{needs}
 use Rattle.layout.proofs.numbers.number8.Statement.{statement}
 use Rattle.layout.proofs.numbers.number8.Tie as tie
-use Rattle.layout.proofs.numbers.number8.Reads as reads
-use Rattle.layout.proofs.numbers.number8.Lts as lts
 
--- src/numbers.rt:24:5
 shared-slice-read-result : tie.Need-shared-slice-read-result
 shared-slice-read-result c = search needs
 
--- src/numbers.rt:20:1
 returns : tie.Need-returns
 returns c = sym (value-one (now (c .before .args .c)) (c .before .pre))
 

@@ -1,3 +1,5 @@
+-- `layout::numbers::put16` meets its contract.
+-- Assumes nothing.
 use mathlib.Core.Path.{_≡_, refl, sym, ap, _∙_}
 use native.Mathlib.Omega.{arith}
 use denote.Ref.{now}
@@ -8,30 +10,22 @@ use lib.Seq.{sets-eq}
 use borrow.Author.Needs.{needs}
 use Rattle.layout.proofs.numbers.put16.Statement.{statement}
 use Rattle.layout.proofs.numbers.put16.Tie as tie
-use Rattle.layout.proofs.numbers.put16.Reads as reads
-use Rattle.layout.proofs.numbers.put16.Lts as lts
 
--- src/numbers.rt:52:14
 cast-out : tie.Need-cast-out
 cast-out c = search needs
 
--- src/numbers.rt:52:5
 slice-write-out : tie.Need-slice-write-out
 slice-write-out c = search needs
 
--- src/numbers.rt:53:14
 cast-out-2 : tie.Need-cast-out-2
 cast-out-2 c = search needs
 
--- src/numbers.rt:53:5
 slice-write-out-2 : tie.Need-slice-write-out-2
 slice-write-out-2 c = search needs
 
--- src/numbers.rt:48:1
 same-length : tie.Need-same-length
 same-length c = search needs
 
--- src/numbers.rt:48:1
 returns : tie.Need-returns
 returns c = sets-eq ((c .args .x / 256 ^ 1 % 256) ∷ (c .args .x / 256 ^ 0 % 256) ∷ []) (now (c .args .out)) 0 (omega arith)
 

@@ -1,3 +1,5 @@
+-- `layout::numbers::put32` meets its contract.
+-- Assumes nothing.
 use mathlib.Core.Path.{_≡_, refl, sym, ap, _∙_}
 use native.Mathlib.Omega.{arith}
 use denote.Ref.{now}
@@ -8,46 +10,34 @@ use lib.Seq.{sets-eq}
 use borrow.Author.Needs.{needs}
 use Rattle.layout.proofs.numbers.put32.Statement.{statement}
 use Rattle.layout.proofs.numbers.put32.Tie as tie
-use Rattle.layout.proofs.numbers.put32.Reads as reads
-use Rattle.layout.proofs.numbers.put32.Lts as lts
 
--- src/numbers.rt:60:14
 cast-out : tie.Need-cast-out
 cast-out c = search needs
 
--- src/numbers.rt:60:5
 slice-write-out : tie.Need-slice-write-out
 slice-write-out c = search needs
 
--- src/numbers.rt:61:14
 cast-out-2 : tie.Need-cast-out-2
 cast-out-2 c = search needs
 
--- src/numbers.rt:61:5
 slice-write-out-2 : tie.Need-slice-write-out-2
 slice-write-out-2 c = simp length-set (omega arith)
 
--- src/numbers.rt:62:14
 cast-out-3 : tie.Need-cast-out-3
 cast-out-3 c = search needs
 
--- src/numbers.rt:62:5
 slice-write-out-3 : tie.Need-slice-write-out-3
 slice-write-out-3 c = simp length-set (omega arith)
 
--- src/numbers.rt:63:14
 cast-out-4 : tie.Need-cast-out-4
 cast-out-4 c = search needs
 
--- src/numbers.rt:63:5
 slice-write-out-4 : tie.Need-slice-write-out-4
 slice-write-out-4 c = search needs
 
--- src/numbers.rt:56:1
 same-length : tie.Need-same-length
 same-length c = search needs
 
--- src/numbers.rt:56:1
 returns : tie.Need-returns
 returns c = sets-eq ((c .args .x / 256 ^ 3 % 256) ∷ (c .args .x / 256 ^ 2 % 256) ∷ (c .args .x / 256 ^ 1 % 256) ∷ (c .args .x / 256 ^ 0 % 256) ∷ []) (now (c .args .out)) 0 (omega arith)
 

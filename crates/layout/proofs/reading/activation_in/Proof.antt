@@ -1,50 +1,37 @@
+-- `layout::reading::activation_in` meets its contract.
+-- Assumes nothing.
 use Rattle.layout.specs.Layout.{activationOf}
 use borrow.Author.Needs.{needs}
 use Rattle.layout.proofs.reading.activation_in.Statement.{statement}
 use Rattle.layout.proofs.reading.activation_in.Tie as tie
-use Rattle.layout.proofs.reading.activation_in.Reads as reads
-use Rattle.layout.proofs.reading.activation_in.Lts as lts
-use Rattle.layout.proofs.numbers.number32.Reads as number32-reads
-use Rattle.layout.proofs.numbers.number8.Reads as number8-reads
-use Rattle.layout.proofs.reading.activation_by.Reads as activation-by-reads
 
--- src/reading.rt:70:35
 sub-number8 : tie.Need-sub-number8
 sub-number8 c = search needs
 
--- src/reading.rt:70:35
 part-number8-start : tie.Need-part-number8-start
 part-number8-start c = search needs
 
--- src/reading.rt:70:35
 part-number8-end : tie.Need-part-number8-end
 part-number8-end c = search needs
 
--- src/reading.rt:70:9
 number8-requires : tie.Need-number8-requires
 number8-requires c κs = search needs
 
--- src/reading.rt:71:34
 sub-number32 : tie.Need-sub-number32
 sub-number32 c = search needs
 
--- src/reading.rt:71:34
 part-number32-start : tie.Need-part-number32-start
 part-number32-start c = search needs
 
--- src/reading.rt:71:34
 part-number32-end : tie.Need-part-number32-end
 part-number32-end c = search needs
 
--- src/reading.rt:71:9
 number32-requires : tie.Need-number32-requires
 number32-requires c κs = search needs
 
--- src/reading.rt:72:5
 activation-by-requires : tie.Need-activation-by-requires
 activation-by-requires c κs = search needs
 
--- src/reading.rt:66:1
 returns : tie.Need-returns
 unfolding activationOf
 returns c = cc

@@ -1,3 +1,5 @@
+-- `layout::reading::allocs_in` meets its contract.
+-- Assumes nothing.
 use Rattle.layout.specs.Layout.{allocsOf}
 use borrow.Author.Needs.{needs}
 use Rattle.layout.proofs.reading.allocs_in.Statement.{statement}

@@ -1,3 +1,5 @@
+-- `layout::reading::lengths_in` meets its contract.
+-- Assumes nothing.
 use mathlib.Core.Path.{_≡_, refl, sym, ap, _∙_}
 use native.Mathlib.Omega.{arith}
 use borrow.Author.Needs.{needs}
@@ -10,9 +12,6 @@ use Rattle.layout.proofs.Laws.{many-start, many-turn, many-end}
 use Rattle.framing.specs.Octets.{value}
 use Rattle.layout.proofs.reading.lengths_in.Statement.{statement}
 use Rattle.layout.proofs.reading.lengths_in.Tie as tie
-use Rattle.layout.proofs.reading.lengths_in.Reads as reads
-use Rattle.layout.proofs.reading.lengths_in.Lts as lts
-use Rattle.layout.proofs.numbers.number16.Reads as number16-reads
 
 abbrev Inv-loop : tie.InvT-loop
 Inv-loop c l₀ i₀ l i = (i ≤ 17) × (length l ≡ 17) × (sets l i (many value 2 (17 - i) (drop (2 * i) c)) ≡ many value 2 17 c)
@@ -20,55 +19,42 @@ Inv-loop c l₀ i₀ l i = (i ≤ 17) × (length l ≡ 17) × (sets l i (many va
 abbrev μ-loop : tie.MeasureT-loop
 μ-loop c l₀ i₀ l i = 17 - i
 
--- src/reading.rt:128:5
 loop-holds : tie.Need-loop-holds Inv-loop μ-loop
 loop-holds c = (omega arith, refl, many-start value 2 17 (now (c .before .args .c)) (replicate 17 0) refl)
 
--- src/reading.rt:129:18
 mul-at : tie.Need-mul-at Inv-loop μ-loop
 mul-at c = search needs
 
--- src/reading.rt:130:19
 add-end : tie.Need-add-end Inv-loop μ-loop
 add-end c = search needs
 
--- src/reading.rt:131:37
 sub-number16 : tie.Need-sub-number16 Inv-loop μ-loop
 sub-number16 c = search needs
 
--- src/reading.rt:131:37
 part-number16-start : tie.Need-part-number16-start Inv-loop μ-loop
 part-number16-start c = search needs
 
--- src/reading.rt:131:37
 part-number16-end : tie.Need-part-number16-end Inv-loop μ-loop
 part-number16-end c = search needs
 
--- src/reading.rt:131:13
 number16-requires : tie.Need-number16-requires Inv-loop μ-loop
 number16-requires c κs = simp (length-take, length-drop) (omega arith)
 
--- src/reading.rt:132:9
 mul-l : tie.Need-mul-l Inv-loop μ-loop
 mul-l c = search needs
 
--- src/reading.rt:132:9
 array-write-l : tie.Need-array-write-l Inv-loop μ-loop
 array-write-l c = search needs
 
--- src/reading.rt:133:9
 add-i : tie.Need-add-i Inv-loop μ-loop
 add-i c = search needs
 
--- src/reading.rt:128:5
 loop-less : tie.Need-loop-less Inv-loop μ-loop
 loop-less c = search needs
 
--- src/reading.rt:128:5
 loop-again : tie.Need-loop-again Inv-loop μ-loop
 loop-again c = (omega arith, simp length-set (c .before .before .before .loop .inv .1), many-turn value 2 17 (c .before .before .before .loop .i) (2 * c .before .before .before .loop .i) (now (c .before .before .before .before .before .args .c)) (c .before .before .before .loop .l) _ (omega arith) refl (c .number16 .ensures) ∙ c .before .before .before .loop .inv .2)
 
--- src/reading.rt:122:1
 returns : tie.Need-returns Inv-loop μ-loop
 returns c = many-end value 2 17 (c .before .loop .i) (drop (2 * c .before .loop .i) (now (c .before .before .before .args .c))) (c .before .loop .l) (omega arith) ∙ c .before .loop .inv .2
 

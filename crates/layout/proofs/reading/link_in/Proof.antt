@@ -1,3 +1,5 @@
+-- `layout::reading::link_in` meets its contract.
+-- Assumes nothing.
 use Rattle.layout.specs.Layout.{linkOf}
 use borrow.Author.Needs.{needs}
 use Rattle.layout.proofs.reading.link_in.Statement.{statement}

@@ -1,3 +1,5 @@
+-- `layout::reading::marks_in` meets its contract.
+-- Assumes nothing.
 use mathlib.Core.Bool.{false}
 use mathlib.Core.Path.{_≡_, refl, sym, ap, _∙_}
 use native.Mathlib.Omega.{arith}
@@ -12,9 +14,6 @@ use Rattle.layout.specs.Layout.{markOf}
 use lib.Dec.{eqb}
 use Rattle.layout.proofs.reading.marks_in.Statement.{statement}
 use Rattle.layout.proofs.reading.marks_in.Tie as tie
-use Rattle.layout.proofs.reading.marks_in.Reads as reads
-use Rattle.layout.proofs.reading.marks_in.Lts as lts
-use Rattle.layout.proofs.numbers.number8.Reads as number8-reads
 
 abbrev Inv-loop : tie.InvT-loop
 Inv-loop c l₀ i₀ l i = (i ≤ 17) × (length l ≡ 17) × (sets l i (many markOf 1 (17 - i) (drop (1 * i) c)) ≡ many markOf 1 17 c)
@@ -22,47 +21,36 @@ Inv-loop c l₀ i₀ l i = (i ≤ 17) × (length l ≡ 17) × (sets l i (many ma
 abbrev μ-loop : tie.MeasureT-loop
 μ-loop c l₀ i₀ l i = 17 - i
 
--- src/reading.rt:144:5
 loop-holds : tie.Need-loop-holds Inv-loop μ-loop
 loop-holds c = (omega arith, refl, many-start markOf 1 17 (now (c .before .args .c)) (replicate 17 false) refl)
 
--- src/reading.rt:145:19
 add-end : tie.Need-add-end Inv-loop μ-loop
 add-end c = search needs
 
--- src/reading.rt:146:36
 sub-number8 : tie.Need-sub-number8 Inv-loop μ-loop
 sub-number8 c = search needs
 
--- src/reading.rt:146:36
 part-number8-start : tie.Need-part-number8-start Inv-loop μ-loop
 part-number8-start c = search needs
 
--- src/reading.rt:146:36
 part-number8-end : tie.Need-part-number8-end Inv-loop μ-loop
 part-number8-end c = search needs
 
--- src/reading.rt:146:19
 number8-requires : tie.Need-number8-requires Inv-loop μ-loop
 number8-requires c κs = simp (length-take, length-drop) (omega arith)
 
--- src/reading.rt:147:9
 array-write-l : tie.Need-array-write-l Inv-loop μ-loop
 array-write-l c = search needs
 
--- src/reading.rt:148:9
 add-i : tie.Need-add-i Inv-loop μ-loop
 add-i c = search needs
 
--- src/reading.rt:144:5
 loop-less : tie.Need-loop-less Inv-loop μ-loop
 loop-less c = search needs
 
--- src/reading.rt:144:5
 loop-again : tie.Need-loop-again Inv-loop μ-loop
 loop-again c = (omega arith, simp length-set (c .before .before .before .loop .inv .1), many-turn markOf 1 17 (c .before .before .before .loop .i) (c .before .before .before .loop .i) (now (c .before .before .before .before .before .args .c)) (c .before .before .before .loop .l) _ (omega arith) (omega arith) (ap (λ (z : ℕ). eqb z 1) (c .number8 .ensures)) ∙ c .before .before .before .loop .inv .2)
 
--- src/reading.rt:138:1
 returns : tie.Need-returns Inv-loop μ-loop
 returns c = many-end markOf 1 17 (c .before .loop .i) (drop (1 * c .before .loop .i) (now (c .before .before .before .args .c))) (c .before .loop .l) (omega arith) ∙ c .before .loop .inv .2
 

@@ -1,3 +1,5 @@
+-- `layout::reading::ports_in` meets its contract.
+-- Assumes nothing.
 use Rattle.layout.specs.Layout.{portsOf}
 use borrow.Author.Needs.{needs}
 use Rattle.layout.proofs.reading.ports_in.Statement.{statement}

@@ -1,3 +1,5 @@
+-- `layout::reading::queue_in` meets its contract.
+-- Assumes nothing.
 use Rattle.layout.specs.Layout.{queueOf}
 use borrow.Author.Needs.{needs}
 use Rattle.layout.proofs.reading.queue_in.Statement.{statement}

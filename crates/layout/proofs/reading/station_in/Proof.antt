@@ -1,3 +1,5 @@
+-- `layout::reading::station_in` meets its contract.
+-- Assumes nothing.
 use Rattle.layout.specs.Layout.{shown}
 use borrow.Author.Needs.{needs}
 use Rattle.layout.proofs.reading.station_in.Statement.{statement}

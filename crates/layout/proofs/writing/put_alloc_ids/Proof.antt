@@ -1,3 +1,5 @@
+-- `layout::writing::put_alloc_ids` meets its contract.
+-- Assumes nothing.
 use mathlib.Core.Path.{_≡_, refl, sym, ap, _∙_}
 use native.Mathlib.Omega.{arith}
 use borrow.Author.Needs.{needs}
@@ -11,8 +13,6 @@ use Rattle.layout.specs.Layout.{allocOctets}
 use Rattle.layout.proofs.Laws.{each-one, each-two, each-end, each-length, put-of}
 use Rattle.layout.proofs.writing.put_alloc_ids.Statement.{statement}
 use Rattle.layout.proofs.writing.put_alloc_ids.Tie as tie
-use Rattle.layout.proofs.writing.put_alloc_ids.Reads as reads
-use Rattle.layout.proofs.writing.put_alloc_ids.Lts as lts
 
 abbrev Inv-loop : tie.InvT-loop
 Inv-loop out₀ l i₀ out i = (i ≤ 16) × (length l ≡ 16) × (length out ≡ length out₀) × (sets out (2 * i) (each allocOctets (drop i l)) ≡ sets out₀ 0 (each allocOctets l))
@@ -20,59 +20,45 @@ Inv-loop out₀ l i₀ out i = (i ≤ 16) × (length l ≡ 16) × (length out �
 abbrev μ-loop : tie.MeasureT-loop
 μ-loop out₀ l i₀ out i = 16 - i
 
--- src/writing.rt:63:5
 loop-holds : tie.Need-loop-holds Inv-loop μ-loop
 loop-holds c = (omega arith, search needs, refl, refl)
 
--- src/writing.rt:64:18
 mul-at : tie.Need-mul-at Inv-loop μ-loop
 mul-at c = search needs
 
--- src/writing.rt:65:19
 mul-one : tie.Need-mul-one Inv-loop μ-loop
 mul-one c = search needs
 
--- src/writing.rt:65:19
 array-copy-out-one : tie.Need-array-copy-out-one Inv-loop μ-loop
 array-copy-out-one c = search needs
 
--- src/writing.rt:66:19
 cast-out : tie.Need-cast-out Inv-loop μ-loop
 cast-out c = search needs
 
--- src/writing.rt:66:9
 slice-write-out : tie.Need-slice-write-out Inv-loop μ-loop
 slice-write-out c = omega (arith, c .before .before .before .before .pre)
 
--- src/writing.rt:67:23
 cast-out-2 : tie.Need-cast-out-2 Inv-loop μ-loop
 cast-out-2 c = search needs
 
--- src/writing.rt:67:13
 add-out : tie.Need-add-out Inv-loop μ-loop
 add-out c = search needs
 
--- src/writing.rt:67:9
 slice-write-out-2 : tie.Need-slice-write-out-2 Inv-loop μ-loop
 slice-write-out-2 c = simp length-set (omega (arith, c .before .before .before .before .before .pre))
 
--- src/writing.rt:68:9
 add-i : tie.Need-add-i Inv-loop μ-loop
 add-i c = search needs
 
--- src/writing.rt:63:5
 loop-less : tie.Need-loop-less Inv-loop μ-loop
 loop-less c = search needs
 
--- src/writing.rt:63:5
 loop-again : tie.Need-loop-again Inv-loop μ-loop
 loop-again c = (omega arith, c .before .before .before .before .loop .inv .1, simp length-set (c .before .before .before .before .loop .inv .2), each-two allocOctets (c .before .before .before .before .before .args .t1) (c .before .before .before .before .loop .i) _ (omega arith) (c .before .before .before .before .loop .out) (2 * c .before .before .before .before .loop .i) _ _ refl refl ∙ c .before .before .before .before .loop .inv .3)
 
--- src/writing.rt:58:1
 same-length : tie.Need-same-length Inv-loop μ-loop
 same-length c = c .before .loop .inv .2
 
--- src/writing.rt:58:1
 returns : tie.Need-returns Inv-loop μ-loop
 returns c =
     let l = c .before .before .args .t1 in (

@@ -1,3 +1,5 @@
+-- `layout::writing::put_answers` meets its contract.
+-- Assumes nothing.
 use mathlib.Core.Path.{_≡_, refl, sym, ap, _∙_}
 use native.Mathlib.Omega.{arith}
 use borrow.Author.Needs.{needs}
@@ -11,9 +13,6 @@ use Rattle.layout.specs.Layout.{owedOctets}
 use Rattle.layout.proofs.Laws.{two-same, each-one, each-two, each-end, each-length, put-of}
 use Rattle.layout.proofs.writing.put_answers.Statement.{statement}
 use Rattle.layout.proofs.writing.put_answers.Tie as tie
-use Rattle.layout.proofs.writing.put_answers.Reads as reads
-use Rattle.layout.proofs.writing.put_answers.Lts as lts
-use Rattle.layout.proofs.writing.response_number.Reads as response-number-reads
 
 abbrev Inv-loop : tie.InvT-loop
 Inv-loop out₀ l i₀ out i = (i ≤ 8) × (length l ≡ 8) × (length out ≡ length out₀) × (sets out (2 * i) (each owedOctets (drop i l)) ≡ sets out₀ 0 (each owedOctets l))
@@ -21,55 +20,42 @@ Inv-loop out₀ l i₀ out i = (i ≤ 8) × (length l ≡ 8) × (length out ≡ 
 abbrev μ-loop : tie.MeasureT-loop
 μ-loop out₀ l i₀ out i = 8 - i
 
--- src/writing.rt:117:5
 loop-holds : tie.Need-loop-holds Inv-loop μ-loop
 loop-holds c = (omega arith, search needs, refl, refl)
 
--- src/writing.rt:118:18
 mul-at : tie.Need-mul-at Inv-loop μ-loop
 mul-at c = search needs
 
--- src/writing.rt:119:19
 mul-one : tie.Need-mul-one Inv-loop μ-loop
 mul-one c = search needs
 
--- src/writing.rt:119:19
 array-copy-out-one : tie.Need-array-copy-out-one Inv-loop μ-loop
 array-copy-out-one c = search needs
 
--- src/writing.rt:121:13
 response-number-requires : tie.Need-response-number-requires Inv-loop μ-loop
 response-number-requires c κs = search needs
 
--- src/writing.rt:122:9
 slice-write-out : tie.Need-slice-write-out Inv-loop μ-loop
 slice-write-out c = omega (arith, c .before .before .before .before .before .pre)
 
--- src/writing.rt:123:13
 add-out : tie.Need-add-out Inv-loop μ-loop
 add-out c = search needs
 
--- src/writing.rt:123:9
 slice-write-out-2 : tie.Need-slice-write-out-2 Inv-loop μ-loop
 slice-write-out-2 c = simp length-set (omega (arith, c .before .before .before .before .before .pre))
 
--- src/writing.rt:124:9
 add-i : tie.Need-add-i Inv-loop μ-loop
 add-i c = search needs
 
--- src/writing.rt:117:5
 loop-less : tie.Need-loop-less Inv-loop μ-loop
 loop-less c = search needs
 
--- src/writing.rt:117:5
 loop-again : tie.Need-loop-again Inv-loop μ-loop
 loop-again c = (omega arith, c .before .before .before .loop .inv .1, simp length-set (c .before .before .before .loop .inv .2), each-two owedOctets (c .before .before .before .before .before .args .t1) (c .before .before .before .loop .i) _ (omega arith) (c .before .before .before .loop .out) (2 * c .before .before .before .loop .i) _ _ refl (two-same (sym (c .response-number .ensures .0)) refl) ∙ c .before .before .before .loop .inv .3)
 
--- src/writing.rt:112:1
 same-length : tie.Need-same-length Inv-loop μ-loop
 same-length c = c .before .loop .inv .2
 
--- src/writing.rt:112:1
 returns : tie.Need-returns Inv-loop μ-loop
 returns c =
     let l = c .before .before .before .args .t1 in (

@@ -1,3 +1,5 @@
+-- `layout::writing::put_lengths` meets its contract.
+-- Assumes nothing.
 use mathlib.Core.Path.{_≡_, refl, sym, ap, _∙_}
 use native.Mathlib.Omega.{arith}
 use borrow.Author.Needs.{needs}
@@ -11,8 +13,6 @@ use Rattle.layout.specs.Layout.{lengthOctets}
 use Rattle.layout.proofs.Laws.{each-one, each-two, each-end, each-length, put-of}
 use Rattle.layout.proofs.writing.put_lengths.Statement.{statement}
 use Rattle.layout.proofs.writing.put_lengths.Tie as tie
-use Rattle.layout.proofs.writing.put_lengths.Reads as reads
-use Rattle.layout.proofs.writing.put_lengths.Lts as lts
 
 abbrev Inv-loop : tie.InvT-loop
 Inv-loop out₀ l i₀ out i = (i ≤ 17) × (length l ≡ 17) × (length out ≡ length out₀) × (sets out (2 * i) (each lengthOctets (drop i l)) ≡ sets out₀ 0 (each lengthOctets l))
@@ -20,59 +20,45 @@ Inv-loop out₀ l i₀ out i = (i ≤ 17) × (length l ≡ 17) × (length out �
 abbrev μ-loop : tie.MeasureT-loop
 μ-loop out₀ l i₀ out i = 17 - i
 
--- src/writing.rt:91:5
 loop-holds : tie.Need-loop-holds Inv-loop μ-loop
 loop-holds c = (omega arith, search needs, refl, refl)
 
--- src/writing.rt:92:18
 mul-at : tie.Need-mul-at Inv-loop μ-loop
 mul-at c = search needs
 
--- src/writing.rt:93:19
 mul-one : tie.Need-mul-one Inv-loop μ-loop
 mul-one c = search needs
 
--- src/writing.rt:93:19
 array-read-one : tie.Need-array-read-one Inv-loop μ-loop
 array-read-one c = search needs
 
--- src/writing.rt:94:19
 cast-out : tie.Need-cast-out Inv-loop μ-loop
 cast-out c = search needs
 
--- src/writing.rt:94:9
 slice-write-out : tie.Need-slice-write-out Inv-loop μ-loop
 slice-write-out c = omega (arith, c .before .before .pre)
 
--- src/writing.rt:95:23
 cast-out-2 : tie.Need-cast-out-2 Inv-loop μ-loop
 cast-out-2 c = search needs
 
--- src/writing.rt:95:13
 add-out : tie.Need-add-out Inv-loop μ-loop
 add-out c = search needs
 
--- src/writing.rt:95:9
 slice-write-out-2 : tie.Need-slice-write-out-2 Inv-loop μ-loop
 slice-write-out-2 c = simp length-set (omega (arith, c .before .before .pre))
 
--- src/writing.rt:96:9
 add-i : tie.Need-add-i Inv-loop μ-loop
 add-i c = search needs
 
--- src/writing.rt:91:5
 loop-less : tie.Need-loop-less Inv-loop μ-loop
 loop-less c = search needs
 
--- src/writing.rt:91:5
 loop-again : tie.Need-loop-again Inv-loop μ-loop
 loop-again c = (omega arith, c .before .loop .inv .1, simp length-set (c .before .loop .inv .2), each-two lengthOctets (c .before .before .args .t1) (c .before .loop .i) _ (omega arith) (c .before .loop .out) (2 * c .before .loop .i) _ _ refl refl ∙ c .before .loop .inv .3)
 
--- src/writing.rt:86:1
 same-length : tie.Need-same-length Inv-loop μ-loop
 same-length c = c .before .loop .inv .2
 
--- src/writing.rt:86:1
 returns : tie.Need-returns Inv-loop μ-loop
 returns c =
     let l = c .before .before .args .t1 in (

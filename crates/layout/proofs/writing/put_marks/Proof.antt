@@ -1,3 +1,5 @@
+-- `layout::writing::put_marks` meets its contract.
+-- Assumes nothing.
 use mathlib.Core.Path.{_≡_, refl, sym, ap, _∙_}
 use native.Mathlib.Omega.{arith}
 use borrow.Author.Needs.{needs}
@@ -11,9 +13,6 @@ use Rattle.layout.specs.Layout.{markOctets}
 use Rattle.layout.proofs.Laws.{each-one, each-two, each-end, each-length, put-of}
 use Rattle.layout.proofs.writing.put_marks.Statement.{statement}
 use Rattle.layout.proofs.writing.put_marks.Tie as tie
-use Rattle.layout.proofs.writing.put_marks.Reads as reads
-use Rattle.layout.proofs.writing.put_marks.Lts as lts
-use Rattle.layout.proofs.writing.mark.Reads as mark-reads
 
 abbrev Inv-loop : tie.InvT-loop
 Inv-loop out₀ l i₀ out i = (i ≤ 17) × (length l ≡ 17) × (length out ≡ length out₀) × (sets out (i) (each markOctets (drop i l)) ≡ sets out₀ 0 (each markOctets l))
@@ -21,39 +20,30 @@ Inv-loop out₀ l i₀ out i = (i ≤ 17) × (length l ≡ 17) × (length out �
 abbrev μ-loop : tie.MeasureT-loop
 μ-loop out₀ l i₀ out i = 17 - i
 
--- src/writing.rt:105:5
 loop-holds : tie.Need-loop-holds Inv-loop μ-loop
 loop-holds c = (omega arith, search needs, refl, refl)
 
--- src/writing.rt:106:24
 array-read-mark : tie.Need-array-read-mark Inv-loop μ-loop
 array-read-mark c = search needs
 
--- src/writing.rt:106:13
 mark-requires : tie.Need-mark-requires Inv-loop μ-loop
 mark-requires c κs = search needs
 
--- src/writing.rt:107:9
 slice-write-out : tie.Need-slice-write-out Inv-loop μ-loop
 slice-write-out c = omega (arith, c .before .before .before .before .pre)
 
--- src/writing.rt:108:9
 add-i : tie.Need-add-i Inv-loop μ-loop
 add-i c = search needs
 
--- src/writing.rt:105:5
 loop-less : tie.Need-loop-less Inv-loop μ-loop
 loop-less c = search needs
 
--- src/writing.rt:105:5
 loop-again : tie.Need-loop-again Inv-loop μ-loop
 loop-again c = (omega arith, c .before .before .loop .inv .1, simp length-set (c .before .before .loop .inv .2), each-one markOctets (c .before .before .before .before .args .t1) (c .before .before .loop .i) _ (omega arith) (c .before .before .loop .out) _ (ap (λ (z : ℕ). z ∷ []) (sym (c .mark .ensures))) ∙ c .before .before .loop .inv .3)
 
--- src/writing.rt:100:1
 same-length : tie.Need-same-length Inv-loop μ-loop
 same-length c = c .before .loop .inv .2
 
--- src/writing.rt:100:1
 returns : tie.Need-returns Inv-loop μ-loop
 returns c =
     let l = c .before .before .before .args .t1 in (
