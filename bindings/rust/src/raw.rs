@@ -1,0 +1,100 @@
+//! The calls as they are exported, each slice as its pointer and its length. A reference is not null (an empty slice's pointer
+//! dangles, aligned and not null), and the borrow checker keeps `&mut` apart: that is all that the boundary must be granted.
+
+extern "C" {
+    fn lingbarrow_power_on(state: *mut u8, state_length: usize, serial: *const u8, serial_length: usize, registration: *const u8, registration_length: usize) -> u8;
+    fn lingbarrow_frame(
+        state: *mut u8,
+        state_length: usize,
+        memory: *mut u8,
+        memory_length: usize,
+        frame: *const u8,
+        frame_length: usize,
+        delay: u32,
+        plan: *mut u16,
+        plan_length: usize,
+        replies: *mut u8,
+        replies_length: usize,
+        deliveries: *mut u8,
+        deliveries_length: usize,
+        counts: *mut usize,
+        counts_length: usize,
+    ) -> u8;
+    fn lingbarrow_lost(state: *mut u8, state_length: usize) -> u8;
+    fn lingbarrow_add_port(state: *mut u8, state_length: usize, port: u16) -> u8;
+    fn lingbarrow_remove_port(state: *mut u8, state_length: usize, port: u16) -> u8;
+    fn lingbarrow_give_key(state: *mut u8, state_length: usize, key: *const u8, key_length: usize) -> u8;
+    fn lingbarrow_stretch(state: *const u8, state_length: usize, frame: *const u8, frame_length: usize, k: usize, place: *mut usize, place_length: usize) -> u8;
+    fn lingbarrow_write_hlend(bwmap: u16, ploam: u8, target: *mut u8, target_length: usize) -> u8;
+    fn lingbarrow_write_allocation(alloc: u16, dbru: u8, ploamu: u8, start: u16, grant: u16, fwi: u8, profile: u8, target: *mut u8, target_length: usize) -> u8;
+    fn lingbarrow_write_xgem_frame(key: u8, port: u16, options: u32, last: u8, sdu: *const u8, sdu_length: usize, target: *mut u8, target_length: usize) -> u8;
+}
+
+pub fn power_on(state: &mut [u8], serial: &[u8], registration: &[u8]) -> u8 {
+    unsafe { lingbarrow_power_on(state.as_mut_ptr(), state.len(), serial.as_ptr(), serial.len(), registration.as_ptr(), registration.len()) }
+}
+
+#[allow(clippy::too_many_arguments)]
+pub fn frame(
+    state: &mut [u8],
+    memory: &mut [u8],
+    frame: &[u8],
+    delay: u32,
+    plan: &mut [u16],
+    replies: &mut [u8],
+    deliveries: &mut [u8],
+    counts: &mut [usize],
+) -> u8 {
+    unsafe {
+        lingbarrow_frame(
+            state.as_mut_ptr(),
+            state.len(),
+            memory.as_mut_ptr(),
+            memory.len(),
+            frame.as_ptr(),
+            frame.len(),
+            delay,
+            plan.as_mut_ptr(),
+            plan.len(),
+            replies.as_mut_ptr(),
+            replies.len(),
+            deliveries.as_mut_ptr(),
+            deliveries.len(),
+            counts.as_mut_ptr(),
+            counts.len(),
+        )
+    }
+}
+
+pub fn lost(state: &mut [u8]) -> u8 {
+    unsafe { lingbarrow_lost(state.as_mut_ptr(), state.len()) }
+}
+
+pub fn add_port(state: &mut [u8], port: u16) -> u8 {
+    unsafe { lingbarrow_add_port(state.as_mut_ptr(), state.len(), port) }
+}
+
+pub fn remove_port(state: &mut [u8], port: u16) -> u8 {
+    unsafe { lingbarrow_remove_port(state.as_mut_ptr(), state.len(), port) }
+}
+
+pub fn give_key(state: &mut [u8], key: &[u8]) -> u8 {
+    unsafe { lingbarrow_give_key(state.as_mut_ptr(), state.len(), key.as_ptr(), key.len()) }
+}
+
+pub fn stretch(state: &[u8], frame: &[u8], k: usize, place: &mut [usize]) -> u8 {
+    unsafe { lingbarrow_stretch(state.as_ptr(), state.len(), frame.as_ptr(), frame.len(), k, place.as_mut_ptr(), place.len()) }
+}
+
+pub fn write_hlend(bwmap: u16, ploam: u8, target: &mut [u8]) -> u8 {
+    unsafe { lingbarrow_write_hlend(bwmap, ploam, target.as_mut_ptr(), target.len()) }
+}
+
+#[allow(clippy::too_many_arguments)]
+pub fn write_allocation(alloc: u16, dbru: bool, ploamu: bool, start: u16, grant: u16, fwi: bool, profile: u8, target: &mut [u8]) -> u8 {
+    unsafe { lingbarrow_write_allocation(alloc, dbru.into(), ploamu.into(), start, grant, fwi.into(), profile, target.as_mut_ptr(), target.len()) }
+}
+
+pub fn write_xgem_frame(key: u8, port: u16, options: u32, last: bool, sdu: &[u8], target: &mut [u8]) -> u8 {
+    unsafe { lingbarrow_write_xgem_frame(key, port, options, last.into(), sdu.as_ptr(), sdu.len(), target.as_mut_ptr(), target.len()) }
+}

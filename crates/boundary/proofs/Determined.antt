@@ -1,0 +1,45 @@
+-- No second outcome of an exported call meets its contract, every lent buffer included.
+-- Assumes nothing.
+use mathlib.Core.Path.{_≡_, _∙_, sym}
+use mathlib.Core.List.{List}
+use Prim.Native.Nat.{ℕ}
+use Rattle.engine.specs.Lengths.{Lent}
+use Rattle.boundary.specs.Calls.{Left, lostOn, addOn, removeOn, keyOn, powerOnIn}
+use Rattle.boundary.specs.Frames.{FrameLeft, PlaceLeft, frameOn, placeOn}
+use Rattle.boundary.specs.Writers.{Target, hlendIn, allocationIn, xgemFrameIn}
+
+pub power-on-once : (b serial registration : List ℕ) (x y : Left) → x ≡ powerOnIn b serial registration → y ≡ powerOnIn b serial registration → x ≡ y
+power-on-once b serial registration x y p q = p ∙ sym q
+
+pub lost-once : (b : List ℕ) (x y : Left) → x ≡ lostOn b → y ≡ lostOn b → x ≡ y
+lost-once b x y p q = p ∙ sym q
+
+pub add-once : (b : List ℕ) (port : ℕ) (x y : Left) → x ≡ addOn b port → y ≡ addOn b port → x ≡ y
+add-once b port x y p q = p ∙ sym q
+
+pub remove-once : (b : List ℕ) (port : ℕ) (x y : Left) → x ≡ removeOn b port → y ≡ removeOn b port → x ≡ y
+remove-once b port x y p q = p ∙ sym q
+
+pub key-once : (b key : List ℕ) (x y : Left) → x ≡ keyOn b key → y ≡ keyOn b key → x ≡ y
+key-once b key x y p q = p ∙ sym q
+
+pub frame-once
+    : (b f : List ℕ) (delay : ℕ) (counts : List ℕ) (lent : Lent) (x y : FrameLeft) → x ≡ frameOn b f delay counts lent → y ≡ frameOn b f delay counts lent
+    → x ≡ y
+frame-once b f delay counts lent x y p q = p ∙ sym q
+
+pub place-once : (b f : List ℕ) (k : ℕ) (place : List ℕ) (x y : PlaceLeft) → x ≡ placeOn b f k place → y ≡ placeOn b f k place → x ≡ y
+place-once b f k place x y p q = p ∙ sym q
+
+pub hlend-once : (bwmap ploam : ℕ) (t : List ℕ) (x y : Target) → x ≡ hlendIn bwmap ploam t → y ≡ hlendIn bwmap ploam t → x ≡ y
+hlend-once bwmap ploam t x y p q = p ∙ sym q
+
+pub allocation-once
+    : (alloc dbru ploamu start grant fwi profile : ℕ) (t : List ℕ) (x y : Target) → x ≡ allocationIn alloc dbru ploamu start grant fwi profile t
+    → y ≡ allocationIn alloc dbru ploamu start grant fwi profile t → x ≡ y
+allocation-once alloc dbru ploamu start grant fwi profile t x y p q = p ∙ sym q
+
+pub xgem-frame-once
+    : (key port options last : ℕ) (sdu t : List ℕ) (x y : Target) → x ≡ xgemFrameIn key port options last sdu t → y ≡ xgemFrameIn key port options last sdu t
+    → x ≡ y
+xgem-frame-once key port options last sdu t x y p q = p ∙ sym q

@@ -1,0 +1,5 @@
+pub mod Laws
+pub mod Answers
+pub mod Fields
+pub mod RoundTrips
+pub mod Refused

@@ -1,0 +1,95 @@
+-- `layout::writing::put_station` meets its contract.
+-- Assumes nothing.
+use mathlib.Core.Path.{_≡_, refl, sym, ap, _∙_}
+use native.Mathlib.Omega.{arith}
+use denote.Ref.{now}
+use mathlib.Core.List.{List, _++_}
+use Prim.Native.Nat.{ℕ}
+use Rattle.framing.specs.Octets.{octets}
+use Rattle.framing.specs.Writes.{put}
+use Rattle.layout.proofs.Laws.{behind, joined, one-octet}
+use lib.ListN.{length}
+use Rattle.layout.specs.Layout.{identityOctets, linkOctets, portsOctets, carriedOctets, encoded}
+use borrow.Author.Needs.{needs}
+use Rattle.layout.proofs.writing.put_station.Statement.{statement}
+use Rattle.layout.proofs.writing.put_station.Tie as tie
+
+put-identity-requires : tie.Need-put-identity-requires
+put-identity-requires c κs = search needs
+
+sub-put-link : tie.Need-sub-put-link
+sub-put-link c = search needs
+
+part-put-link-start : tie.Need-part-put-link-start
+part-put-link-start c = search needs
+
+part-put-link-end : tie.Need-part-put-link-end
+part-put-link-end c = search needs
+
+put-link-requires : tie.Need-put-link-requires
+put-link-requires c κs = search needs
+
+sub-put-ports : tie.Need-sub-put-ports
+sub-put-ports c = search needs
+
+part-put-ports-start : tie.Need-part-put-ports-start
+part-put-ports-start c = search needs
+
+part-put-ports-end : tie.Need-part-put-ports-end
+part-put-ports-end c = search needs
+
+put-ports-requires : tie.Need-put-ports-requires
+put-ports-requires c κs = search needs
+
+sub-put-carried : tie.Need-sub-put-carried
+sub-put-carried c = search needs
+
+part-put-carried-start : tie.Need-part-put-carried-start
+part-put-carried-start c = search needs
+
+part-put-carried-end : tie.Need-part-put-carried-end
+part-put-carried-end c = search needs
+
+put-carried-requires : tie.Need-put-carried-requires
+put-carried-requires c κs = search needs
+
+same-length : tie.Need-same-length
+same-length c = search needs
+
+returns : tie.Need-returns
+unfolding encoded
+returns c =
+    let t = now (c .before .before .before .before .before .before .before .before .before .before .before .before .before .before .before .before .before .before .before .before .before .args .out) in
+    let e1 = c .before .before .before .before .before .before .before .before .before .before .before .before .before .before .put-identity .ensures .0 in
+    let p1 : List ℕ = identityOctets (c .before .before .before .before .before .before .before .before .before .before .before .before .before .before .before .before .before .before .before .before .before .args .s .activation) (c .before .before .before .before .before .before .before .before .before .before .before .before .before .before .before .before .before .before .before .before .before .args .s .serial) (c .before .before .before .before .before .before .before .before .before .before .before .before .before .before .before .before .before .before .before .before .before .args .s .registration) in
+    let l1 : length p1 ≡ 49 = c .before .before .before .before .before .before .before .before .before .before .before .before .before .before .put-identity .ensures .1 in
+    let e2 = behind t p1 (linkOctets (c .before .before .before .before .before .before .before .before .before .before .before .before .before .before .before .before .before .before .before .before .before .args .s .link)) _ _ _ 49 73 l1 (c .before .before .before .before .before .before .before .before .before .before .put-link .ensures .1) (omega (arith, c .before .before .before .before .before .before .before .before .before .before .before .before .before .before .before .before .before .before .before .before .before .pre)) e1 refl (c .before .before .before .before .before .before .before .before .before .before .put-link .ensures .0) in
+    let p2 : List ℕ = p1 ++ (linkOctets (c .before .before .before .before .before .before .before .before .before .before .before .before .before .before .before .before .before .before .before .before .before .args .s .link)) in
+    let l2 : length p2 ≡ 122 = joined p1 (linkOctets (c .before .before .before .before .before .before .before .before .before .before .before .before .before .before .before .before .before .before .before .before .before .args .s .link)) 49 73 l1 (c .before .before .before .before .before .before .before .before .before .before .put-link .ensures .1) in
+    let e3 = behind t p2 (portsOctets (c .before .before .before .before .before .before .before .before .before .before .before .before .before .before .before .before .before .before .before .before .before .args .s .ports)) _ _ _ 122 83 l2 (c .before .before .before .before .before .before .put-ports .ensures .1) (omega (arith, c .before .before .before .before .before .before .before .before .before .before .before .before .before .before .before .before .before .before .before .before .before .pre)) e2 refl (c .before .before .before .before .before .before .put-ports .ensures .0) in
+    let p3 : List ℕ = p2 ++ (portsOctets (c .before .before .before .before .before .before .before .before .before .before .before .before .before .before .before .before .before .before .before .before .before .args .s .ports)) in
+    let l3 : length p3 ≡ 205 = joined p2 (portsOctets (c .before .before .before .before .before .before .before .before .before .before .before .before .before .before .before .before .before .before .before .before .before .args .s .ports)) 122 83 l2 (c .before .before .before .before .before .before .put-ports .ensures .1) in
+    let e4 = behind t p3 (carriedOctets (c .before .before .before .before .before .before .before .before .before .before .before .before .before .before .before .before .before .before .before .before .before .args .s .carried)) _ _ _ 205 3 l3 refl (omega (arith, c .before .before .before .before .before .before .before .before .before .before .before .before .before .before .before .before .before .before .before .before .before .pre)) e3 refl (c .before .before .put-carried .ensures) in
+    let p4 : List ℕ = p3 ++ (carriedOctets (c .before .before .before .before .before .before .before .before .before .before .before .before .before .before .before .before .before .before .before .before .before .args .s .carried)) in
+    let l4 : length p4 ≡ 208 = joined p3 (carriedOctets (c .before .before .before .before .before .before .before .before .before .before .before .before .before .before .before .before .before .before .before .before .before .args .s .carried)) 205 3 l3 refl in
+    (e4, l4)
+
+pub put-station-spec : {M : Type 1} → statement M
+put-station-spec =
+    tie.close
+    (tie.spec
+    put-identity-requires
+    sub-put-link
+    part-put-link-start
+    part-put-link-end
+    put-link-requires
+    sub-put-ports
+    part-put-ports-start
+    part-put-ports-end
+    put-ports-requires
+    sub-put-carried
+    part-put-carried-start
+    part-put-carried-end
+    put-carried-requires
+    same-length
+    returns)

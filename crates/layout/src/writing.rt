@@ -1,0 +1,233 @@
+// A state's octets, field after field.
+ghost use mathlib.Core.Path.{_≡_};
+ghost use Prim.Native.Nat.{_≤_, _<_};
+ghost use lib.ListN.{length};
+ghost use Rattle.framing.specs.Writes.{put};
+ghost use Rattle.layout.specs.Rows.{each};
+ghost use Rattle.layout.specs.Layout.{stateBytes, timeLeft, responseNumber, activationOctets, allocOctets, portOctets, lengthOctets, markNumber, markOctets, owedOctets};
+ghost use Rattle.layout.specs.Layout.{allocsOctets, keyOctets, queueOctets, linkOctets, portsOctets, identityOctets, carriedOctets, encoded};
+use super::numbers;
+use ids::AllocId;
+use ids::PortId;
+use station::Activation;
+use station::Station;
+use station::held::Allocs;
+use station::held::Key;
+use station::held::Link;
+use station::held::Owed;
+use station::held::Queue;
+use station::held::Response;
+use station::slots::Ports;
+
+fn time_left(a: Activation) -> u32
+    ensures { λ r. ⌜ r ≡ timeLeft a ⌝ }
+{
+    match a {
+        Activation::Initial => 0,
+        Activation::SerialNumber => 0,
+        Activation::Ranging(left) => left,
+        Activation::Operation => 0,
+        Activation::Intermittent(left) => left,
+        Activation::EmergencyStop => 0,
+    }
+}
+
+fn response_number(r: Response) -> u8
+    ensures { λ n. ⌜ (n ≡ responseNumber r) × (n < 7) ⌝ }
+{
+    match r {
+        Response::Registration => 0,
+        Response::Acknowledgement(completion) => completion.code() + 1,
+    }
+}
+
+fn mark(set: bool) -> u8
+    ensures { λ r. ⌜ r ≡ markNumber set ⌝ }
+{
+    if set { 1 } else { 0 }
+}
+
+fn put_activation(a: Activation, out: &mut [u8])
+    requires { ⌜ 5 ≤ length (now out) ⌝ }
+    ensures { λ _. ⌜ now (out .exit) ≡ put (now (out .entry)) (activationOctets a) ⌝ }
+{
+    numbers::put8(a.number(), out);
+    numbers::put32(time_left(a), &mut out[1..]);
+}
+
+fn put_alloc_ids(l: [AllocId; 16], out: &mut [u8])
+    requires { ⌜ 32 ≤ length (now out) ⌝ }
+    ensures { λ _. ⌜ (now (out .exit) ≡ put (now (out .entry)) (each allocOctets l)) × (length (each allocOctets l) ≡ 32) ⌝ }
+{
+    let mut i: usize = 0;
+    while i < 16 {
+        let at = 2 * i;
+        let one = l[i];
+        out[at] = (one.0 / 0x100 % 256) as u8;
+        out[at + 1] = (one.0 / 1 % 256) as u8;
+        i += 1;
+    }
+}
+
+fn put_port_ids(l: [PortId; 16], out: &mut [u8])
+    requires { ⌜ 32 ≤ length (now out) ⌝ }
+    ensures { λ _. ⌜ (now (out .exit) ≡ put (now (out .entry)) (each portOctets l)) × (length (each portOctets l) ≡ 32) ⌝ }
+{
+    let mut i: usize = 0;
+    while i < 16 {
+        let at = 2 * i;
+        let one = l[i];
+        out[at] = (one.0 / 0x100 % 256) as u8;
+        out[at + 1] = (one.0 / 1 % 256) as u8;
+        i += 1;
+    }
+}
+
+fn put_lengths(l: [u16; 17], out: &mut [u8])
+    requires { ⌜ 34 ≤ length (now out) ⌝ }
+    ensures { λ _. ⌜ (now (out .exit) ≡ put (now (out .entry)) (each lengthOctets l)) × (length (each lengthOctets l) ≡ 34) ⌝ }
+{
+    let mut i: usize = 0;
+    while i < 17 {
+        let at = 2 * i;
+        let one = l[i];
+        out[at] = (one / 0x100 % 256) as u8;
+        out[at + 1] = (one / 1 % 256) as u8;
+        i += 1;
+    }
+}
+
+fn put_marks(l: [bool; 17], out: &mut [u8])
+    requires { ⌜ 17 ≤ length (now out) ⌝ }
+    ensures { λ _. ⌜ (now (out .exit) ≡ put (now (out .entry)) (each markOctets l)) × (length (each markOctets l) ≡ 17) ⌝ }
+{
+    let mut i: usize = 0;
+    while i < 17 {
+        let one = mark(l[i]);
+        out[i] = one;
+        i += 1;
+    }
+}
+
+fn put_answers(l: [Owed; 8], out: &mut [u8])
+    requires { ⌜ 16 ≤ length (now out) ⌝ }
+    ensures { λ _. ⌜ (now (out .exit) ≡ put (now (out .entry)) (each owedOctets l)) × (length (each owedOctets l) ≡ 16) ⌝ }
+{
+    let mut i: usize = 0;
+    while i < 8 {
+        let at = 2 * i;
+        let one = l[i];
+        let response = one.response;
+        let number = response_number(response);
+        out[at] = number;
+        out[at + 1] = one.seq_no;
+        i += 1;
+    }
+}
+
+fn put_octets8(l: [u8; 8], out: &mut [u8])
+    requires { ⌜ 8 ≤ length (now out) ⌝ }
+    ensures { λ _. ⌜ (now (out .exit) ≡ put (now (out .entry)) l) × (length l ≡ 8) ⌝ }
+{
+    numbers::put_octets(&l, out);
+}
+
+fn put_octets16(l: [u8; 16], out: &mut [u8])
+    requires { ⌜ 16 ≤ length (now out) ⌝ }
+    ensures { λ _. ⌜ (now (out .exit) ≡ put (now (out .entry)) l) × (length l ≡ 16) ⌝ }
+{
+    numbers::put_octets(&l, out);
+}
+
+fn put_octets36(l: [u8; 36], out: &mut [u8])
+    requires { ⌜ 36 ≤ length (now out) ⌝ }
+    ensures { λ _. ⌜ (now (out .exit) ≡ put (now (out .entry)) l) × (length l ≡ 36) ⌝ }
+{
+    numbers::put_octets(&l, out);
+}
+
+fn put_allocs(a: Allocs, out: &mut [u8])
+    requires { ⌜ 33 ≤ length (now out) ⌝ }
+    ensures { λ _. ⌜ (now (out .exit) ≡ put (now (out .entry)) (allocsOctets a)) × (length (allocsOctets a) ≡ 33) ⌝ }
+{
+    let ids = a.ids;
+    numbers::put8((a.count % 256) as u8, out);
+    put_alloc_ids(ids, &mut out[1..]);
+}
+
+fn put_key(k: Key, out: &mut [u8])
+    requires { ⌜ 17 ≤ length (now out) ⌝ }
+    ensures { λ _. ⌜ (now (out .exit) ≡ put (now (out .entry)) (keyOctets k)) × (length (keyOctets k) ≡ 17) ⌝ }
+{
+    let octets = k.octets;
+    numbers::put8(mark(k.held), out);
+    put_octets16(octets, &mut out[1..]);
+}
+
+fn put_queue(q: Queue, out: &mut [u8])
+    requires { ⌜ 17 ≤ length (now out) ⌝ }
+    ensures { λ _. ⌜ (now (out .exit) ≡ put (now (out .entry)) (queueOctets q)) × (length (queueOctets q) ≡ 17) ⌝ }
+{
+    let answers = q.answers;
+    numbers::put8((q.count % 256) as u8, out);
+    put_answers(answers, &mut out[1..]);
+}
+
+fn put_link(l: Link, out: &mut [u8])
+    requires { ⌜ 73 ≤ length (now out) ⌝ }
+    ensures { λ _. ⌜ (now (out .exit) ≡ put (now (out .entry)) (linkOctets l)) × (length (linkOctets l) ≡ 73) ⌝ }
+{
+    let onu = l.onu;
+    let allocs = l.allocs;
+    let key = l.key;
+    let owed = l.owed;
+    numbers::put16(onu.0, out);
+    put_allocs(allocs, &mut out[2..]);
+    numbers::put32(l.delay, &mut out[35..]);
+    put_key(key, &mut out[39..]);
+    put_queue(owed, &mut out[56..]);
+}
+
+fn put_ports(p: Ports, out: &mut [u8])
+    requires { ⌜ 83 ≤ length (now out) ⌝ }
+    ensures { λ _. ⌜ (now (out .exit) ≡ put (now (out .entry)) (portsOctets p)) × (length (portsOctets p) ≡ 83) ⌝ }
+{
+    let ids = p.ids;
+    let lengths = p.lengths;
+    let waiting = p.waiting;
+    put_port_ids(ids, out);
+    put_lengths(lengths, &mut out[32..]);
+    put_marks(waiting, &mut out[66..]);
+}
+
+fn put_identity(a: Activation, serial: [u8; 8], registration: [u8; 36], out: &mut [u8])
+    requires { ⌜ 49 ≤ length (now out) ⌝ }
+    ensures { λ _. ⌜ (now (out .exit) ≡ put (now (out .entry)) (identityOctets a serial registration)) × (length (identityOctets a serial registration) ≡ 49) ⌝ }
+{
+    put_activation(a, out);
+    put_octets8(serial, &mut out[5..]);
+    put_octets36(registration, &mut out[13..]);
+}
+
+fn put_carried(words: u16, out: &mut [u8])
+    requires { ⌜ 3 ≤ length (now out) ⌝ }
+    ensures { λ _. ⌜ now (out .exit) ≡ put (now (out .entry)) (carriedOctets words) ⌝ }
+{
+    numbers::put16(words, out);
+    numbers::put8(0, &mut out[2..]);
+}
+
+pub(crate) fn put_station(s: Station, out: &mut [u8])
+    requires { ⌜ stateBytes ≤ length (now out) ⌝ }
+    ensures { λ _. ⌜ (now (out .exit) ≡ put (now (out .entry)) (encoded s)) × (length (encoded s) ≡ stateBytes) ⌝ }
+{
+    let activation = s.activation;
+    let serial = s.serial;
+    let registration = s.registration;
+    let link = s.link;
+    let ports = s.ports;
+    put_identity(activation, serial, registration, out);
+    put_link(link, &mut out[49..]);
+    put_ports(ports, &mut out[122..]);
+    put_carried(s.carried, &mut out[205..]);
+}
