@@ -1,6 +1,8 @@
 //! The calls as they are exported, each slice as its pointer and its length. A reference is not null (an empty slice's pointer
 //! dangles, aligned and not null), and the borrow checker keeps `&mut` apart: that is all that the boundary must be granted.
+//! The static library becomes part of this crate, so that whoever uses it links nothing else; `-L` says where it is.
 
+#[link(name = "boundary", kind = "static")]
 extern "C" {
     fn lingbarrow_power_on(state: *mut u8, state_length: usize, serial: *const u8, serial_length: usize, registration: *const u8, registration_length: usize) -> u8;
     fn lingbarrow_frame(
