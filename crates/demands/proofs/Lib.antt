@@ -7,6 +7,6 @@ pub mod Timeline
 pub mod MeetsDemand3
 pub mod MeetsDemand1
 pub mod Bite
-pub mod BiteOfDemand3
+pub mod BiteFromPowerOn
 pub mod Keeps
 pub mod MeetsDemand2

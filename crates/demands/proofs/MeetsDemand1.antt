@@ -10,6 +10,11 @@ use borrow.Author.Tests.{leb-true, leb-false}
 use Rattle.ids.specs.Ids.{managementPort}
 use Rattle.framing.specs.declared.hlend.Hlend.{Hlend}
 use Rattle.framing.specs.Reads.{Found, fields, unreadable, short, readHlend}
+use Rattle.framing.specs.declared.octets.Written.the-variants.{Done as WriteDone, Refused}
+use Rattle.framing.specs.Octets.{octets}
+use Rattle.framing.specs.Layouts.{hlendFits, hlendWord, allocationFits, allocationWord, xgemFits, xgemWord}
+use Rattle.framing.specs.Writes as writing
+use Rattle.framing.specs.Writes.{put, wrote, carrying, xgemFrame}
 use Rattle.ids.specs.declared.PortId.{PortId}
 use Rattle.ids.specs.Ids.{assignablePort}
 use Rattle.station.specs.declared.answers.Answer.{Answer}
@@ -33,7 +38,7 @@ use Rattle.engine.specs.declared.alone.StretchPlace.{StretchPlace}
 use Rattle.engine.specs.Stretch.{empty, answerIf, inFrame, placeIn, placeBy, stretchPlace}
 use Rattle.engine.proofs.Table.{table, not-short}
 use Rattle.demands.specs.Engine.{lingbarrow}
-use Rattle.demands.specs.Demand1.{LostRow, AddRow, RemoveRow, KeyRow, Placed, StretchRow, Demand1}
+use Rattle.demands.specs.Demand1.{LostRow, AddRow, RemoveRow, KeyRow, Placed, StretchRow, WriteRow, Demand1}
 
 lost-row : (s : Station) → LostRow s (lostLeft s .answer) (lostLeft s .station)
 unfolding lostLeft
@@ -133,5 +138,29 @@ module _ (s : Station) (f : List ℕ) (k : ℕ) where
       go true p false q = (p, q, refl)
       go true p true q = by-hlend p q (readHlend f) refl
 
+-- ---- the writers
+
+write-row : (fit : Bool) (octets t : List ℕ) → WriteRow fit octets t (wrote fit octets t .answer) (wrote fit octets t .target)
+write-row fit octets t = go fit refl (leb (length octets) (length t)) refl
+  where
+    go
+        : (a : Bool) → fit ≡ a → (b : Bool) → leb (length octets) (length t) ≡ b
+        → let o = cond {A = writing.Left} (a && b) (record { answer = WriteDone; target = put t octets }) (record { answer = Refused; target = t }) in
+        WriteRow fit octets t (o .answer) (o .target)
+    go true p true q = (p, q, refl)
+    go true p false q = (rw (p, q), refl)
+    go false p b q = (rw p, refl)
+
 pub meets-demand-1 : Demand1 lingbarrow
-meets-demand-1 = record { frame = table; lost = lost-row; add = add-row; remove = remove-row; key = key-row; stretch = stretch-row }
+meets-demand-1 = record {
+  frame = table;
+  lost = lost-row;
+  add = add-row;
+  remove = remove-row;
+  key = key-row;
+  stretch = stretch-row;
+  hlend = λ h t. write-row (hlendFits h) (octets 4 (hlendWord h)) t;
+  allocation = λ a t. write-row (allocationFits a) (octets 8 (allocationWord a)) t;
+  xgem = λ x t. write-row (xgemFits x) (octets 8 (xgemWord x)) t;
+  xgem-frame = λ x sdu t. write-row (xgemFits (carrying x sdu)) (xgemFrame (carrying x sdu) sdu) t;
+}

@@ -16,6 +16,7 @@ use Rattle.effects.specs.Decisions.{isOurs, effectOf, fitting}
 use Rattle.effects.specs.Changes.{applied}
 use Rattle.effects.specs.Acts.{act}
 use Rattle.activation.specs.Receiving.{acting, receive}
+use Rattle.demands.specs.Engine.{lingbarrow}
 use Rattle.demands.specs.Demand2.{Demand2}
 use Rattle.demands.proofs.HeaderFact.{header-fact}
 
@@ -32,7 +33,7 @@ unheeded : (s : Station) (m : List ℕ) → genuine (installedKey (s .link .key 
 unfolding receive
 unheeded s m e = ap (λ (b : Bool). acting s b (received m)) e ∙ ignored s (received m)
 
-pub meets-demand-2 : Demand2
+pub meets-demand-2 : Demand2 lingbarrow
 meets-demand-2 =
     record {
       headers = header-fact;

@@ -6,8 +6,16 @@ use Prim.Native.Nat.{ℕ, _≤_, _<_}
 use mathlib.Core.Path.{_≡_}
 use mathlib.Core.Bool.{Bool, true, false, _&&_}
 use mathlib.Core.List.{List}
+use lib.Dec.{leb}
 use lib.ListN.{length}
 use Rattle.framing.specs.declared.hlend.Hlend.{Hlend}
+use Rattle.framing.specs.declared.allocation.Allocation.{Allocation}
+use Rattle.framing.specs.declared.xgem.XgemHeader.{XgemHeader}
+use Rattle.framing.specs.declared.octets.Written.{Written}
+use Rattle.framing.specs.declared.octets.Written.the-variants.{Done as WriteDone, Refused}
+use Rattle.framing.specs.Octets.{octets}
+use Rattle.framing.specs.Layouts.{hlendFits, hlendWord, allocationFits, allocationWord, xgemFits, xgemWord}
+use Rattle.framing.specs.Writes.{put, carrying, xgemFrame}
 use Rattle.framing.specs.Reads.{fields, unreadable, readHlend}
 use Rattle.ids.specs.declared.PortId.{PortId}
 use Rattle.ids.specs.Ids.{assignablePort}
@@ -131,6 +139,11 @@ StretchRow s f k SlotsTaken p = ⊥
 StretchRow s f k KeyRefused p = ⊥
 StretchRow s f k NotWritten p = ⊥
 
+-- the writers: 0 where every value fits its field and the target has room, and 11 with nothing changed where not
+abbrev pub WriteRow : Bool → List ℕ → List ℕ → Written → List ℕ → Type 0
+WriteRow fit octets target WriteDone left = (fit ≡ true) × (leb (length octets) (length target) ≡ true) × (left ≡ put target octets)
+WriteRow fit octets target Refused left = ((fit && leb (length octets) (length target)) ≡ false) × (left ≡ target)
+
 pub record Demand1 (E : Engine) : Type 0 where
   pub frame : (s : Station) (f : List ℕ) (delay : ℕ) (lent : Lent) → Row s f delay lent (E .frame s f delay lent .outcome .answer) (E .frame s f delay lent)
   pub lost : (s : Station) → LostRow s (E .lost s .answer) (E .lost s .station)
@@ -138,3 +151,9 @@ pub record Demand1 (E : Engine) : Type 0 where
   pub remove : (s : Station) (port : PortId) → RemoveRow s port (E .removePort s port .answer) (E .removePort s port .station)
   pub key : (s : Station) (octets : List ℕ) → KeyRow s octets (E .giveKey s octets .answer) (E .giveKey s octets .station)
   pub stretch : (s : Station) (f : List ℕ) (k : ℕ) → StretchRow s f k (E .stretchPlace s f k .answer) (E .stretchPlace s f k)
+  pub hlend : (h : Hlend) (t : List ℕ) → WriteRow (hlendFits h) (octets 4 (hlendWord h)) t (E .writeHlend h t .answer) (E .writeHlend h t .target)
+  pub allocation : (a : Allocation) (t : List ℕ)
+      → WriteRow (allocationFits a) (octets 8 (allocationWord a)) t (E .writeAllocation a t .answer) (E .writeAllocation a t .target)
+  pub xgem : (x : XgemHeader) (t : List ℕ) → WriteRow (xgemFits x) (octets 8 (xgemWord x)) t (E .writeXgem x t .answer) (E .writeXgem x t .target)
+  pub xgem-frame : (x : XgemHeader) (sdu t : List ℕ)
+      → WriteRow (xgemFits (carrying x sdu)) (xgemFrame (carrying x sdu) sdu) t (E .writeXgemFrame x sdu t .answer) (E .writeXgemFrame x sdu t .target)

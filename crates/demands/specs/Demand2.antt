@@ -14,7 +14,7 @@ use Rattle.framing.specs.declared.allocation.Allocation.{Allocation}
 use Rattle.framing.specs.declared.xgem.XgemHeader.{XgemHeader}
 use Rattle.framing.specs.Layouts.{hlendFits, allocationFits, xgemFits, payloadSize}
 use Rattle.framing.specs.Reads.{fields, readHlend, readAllocation, readXgem}
-use Rattle.framing.specs.Writes.{writeHlend, writeAllocation, writeXgem, carrying, writeXgemFrame}
+use Rattle.framing.specs.Writes.{carrying}
 use Rattle.ploam.specs.Layout.{messageOctets, coveredOctets, addressOf, typeOf, seqNoOf}
 use Rattle.ploam.specs.Integrity.{micOf, micRight, keyFor, installedKey, genuine}
 use Rattle.ploam.specs.Upstream.{upstreamAddress, upstreamType, upstreamSeqNo, upstreamContent, heard, asSent, Numbers}
@@ -25,6 +25,7 @@ use Rattle.ploam.specs.declared.UpstreamMessage.{UpstreamMessage}
 use Rattle.ploam.specs.declared.Heard.the-variants.{Said}
 use Rattle.station.specs.declared.Station.{Station}
 use Rattle.activation.specs.Receiving.{receive}
+use Rattle.demands.specs.Engine.{Engine}
 use Rattle.demands.specs.Headers.{HeaderFact}
 
 -- what is read of the octets m that were written of a message
@@ -36,17 +37,17 @@ pub record Again (installed : List ℕ) (message : UpstreamMessage) (id m : List
   pub said : heard m ≡ Said (asSent message)
   pub right : micRight (keyFor Upstream (addressOf m) (typeOf m) installed) Upstream m ≡ true
 
-pub record Demand2 : Type 0 where
+pub record Demand2 (E : Engine) : Type 0 where
   -- "A header is mended where a true one differs in at most two bits, and is unreadable only where there is none": HLend has 32
   -- bits, the other two 64
   pub headers : (n : ℕ) → n ≤ 64 → HeaderFact n
   -- "What we write and read again comes back equal"
-  pub hlend : (h : Hlend) → hlendFits h ≡ true → (target : List ℕ) → 4 ≤ length target → readHlend (writeHlend h target .target) ≡ fields h
-  pub allocation : (a : Allocation) → allocationFits a ≡ true → (target : List ℕ) → 8 ≤ length target → readAllocation (writeAllocation a target .target) ≡ fields a
-  pub xgem : (x : XgemHeader) → xgemFits x ≡ true → (target : List ℕ) → 8 ≤ length target → readXgem (writeXgem x target .target) ≡ fields x
+  pub hlend : (h : Hlend) → hlendFits h ≡ true → (target : List ℕ) → 4 ≤ length target → readHlend (E .writeHlend h target .target) ≡ fields h
+  pub allocation : (a : Allocation) → allocationFits a ≡ true → (target : List ℕ) → 8 ≤ length target → readAllocation (E .writeAllocation a target .target) ≡ fields a
+  pub xgem : (x : XgemHeader) → xgemFits x ≡ true → (target : List ℕ) → 8 ≤ length target → readXgem (E .writeXgem x target .target) ≡ fields x
   pub frame
       : (x : XgemHeader) (sdu : List ℕ) → xgemFits (carrying x sdu) ≡ true → (target : List ℕ) → 8 + payloadSize (length sdu) ≤ length target
-      → (readXgem (writeXgemFrame x sdu target .target) ≡ fields (carrying x sdu)) × (take (length sdu) (drop 8 (writeXgemFrame x sdu target .target)) ≡ sdu)
+      → (readXgem (E .writeXgemFrame x sdu target .target) ≡ fields (carrying x sdu)) × (take (length sdu) (drop 8 (E .writeXgemFrame x sdu target .target)) ≡ sdu)
   pub message
       : (installed : List ℕ) (message : UpstreamMessage) (id target : List ℕ) → Numbers message → length id ≡ 36 → messageOctets ≤ length target
       → Again installed message id (written installed message id target .target)

@@ -4,6 +4,10 @@
 use Prim.Native.Nat.{ℕ}
 use mathlib.Core.List.{List}
 use Rattle.ids.specs.declared.PortId.{PortId}
+use Rattle.framing.specs.declared.hlend.Hlend.{Hlend}
+use Rattle.framing.specs.declared.allocation.Allocation.{Allocation}
+use Rattle.framing.specs.declared.xgem.XgemHeader.{XgemHeader}
+use Rattle.framing.specs.Writes as writing
 use Rattle.station.specs.declared.Station.{Station}
 use Rattle.station.specs.Station as station
 use Rattle.host.specs.declared.Outcome.{Outcome}
@@ -22,6 +26,10 @@ pub record Engine : Type 0 where
   pub removePort : Station → PortId → Outcome
   pub giveKey : Station → List ℕ → Outcome
   pub stretchPlace : Station → List ℕ → ℕ → StretchPlace
+  pub writeHlend : Hlend → List ℕ → writing.Left
+  pub writeAllocation : Allocation → List ℕ → writing.Left
+  pub writeXgem : XgemHeader → List ℕ → writing.Left
+  pub writeXgemFrame : XgemHeader → List ℕ → List ℕ → writing.Left
 
 -- this one: each definition is the right side of the public call's contract
 abbrev pub lingbarrow : Engine
@@ -34,4 +42,8 @@ lingbarrow =
       removePort = afterRemove;
       giveKey = afterKey;
       stretchPlace = stretchPlace;
+      writeHlend = writing.writeHlend;
+      writeAllocation = writing.writeAllocation;
+      writeXgem = writing.writeXgem;
+      writeXgemFrame = writing.writeXgemFrame;
     }

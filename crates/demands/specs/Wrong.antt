@@ -7,6 +7,8 @@ use mathlib.Core.List.{List, _∷_}
 use lib.ListN.{take, drop}
 use Rattle.framing.specs.declared.hlend.Hlend.{Hlend}
 use Rattle.framing.specs.Reads.{Found, fields, unreadable, short, readHlend}
+use Rattle.framing.specs.Writes as writing
+use Rattle.framing.specs.declared.octets.Written.the-variants as Written
 use Rattle.station.specs.declared.Station.{Station}
 use Rattle.station.specs.declared.answers.Answer.{Answer}
 use Rattle.station.specs.declared.answers.Answer.the-variants.{Done, StateOutOfRange, FrameLengthUnfit, BufferTooShort, HlendUnreadable, HeaderTooLong, DelineationLost, PortOutOfRange, PortHeldOrNotHeld, SlotsTaken, KeyRefused, NotWritten}
@@ -28,6 +30,10 @@ withFrame call =
       removePort = lingbarrow .removePort;
       giveKey = lingbarrow .giveKey;
       stretchPlace = lingbarrow .stretchPlace;
+      writeHlend = lingbarrow .writeHlend;
+      writeAllocation = lingbarrow .writeAllocation;
+      writeXgem = lingbarrow .writeXgem;
+      writeXgemFrame = lingbarrow .writeXgemFrame;
     }
 
 abbrev pub counting : ℕ → List ℕ → Left → Left
@@ -48,6 +54,26 @@ fixedPlan = withFrame (λ s f delay lent. counting 1 (1023 ∷ 3 ∷ 500 ∷ 0 �
 -- "one that writes nothing"
 abbrev pub writesNothing : Engine
 writesNothing = withFrame (λ s f delay lent. record { outcome = frameLeft s f delay lent .outcome; lent = lent })
+
+-- the same of the writers: each says that it has written, and the target is as it was
+abbrev pub unwritten : List ℕ → writing.Left
+unwritten target = record { answer = Written.Done; target = target }
+
+abbrev pub writesNoHeader : Engine
+writesNoHeader =
+    record {
+      powerOn = lingbarrow .powerOn;
+      frame = lingbarrow .frame;
+      lost = lingbarrow .lost;
+      addPort = lingbarrow .addPort;
+      removePort = lingbarrow .removePort;
+      giveKey = lingbarrow .giveKey;
+      stretchPlace = lingbarrow .stretchPlace;
+      writeHlend = λ h target. unwritten target;
+      writeAllocation = λ a target. unwritten target;
+      writeXgem = λ x target. unwritten target;
+      writeXgemFrame = λ x sdu target. unwritten target;
+    }
 
 -- "one that handles the first structure .. and feigns the rest"
 abbrev pub firstBy : Found Hlend → Station → List ℕ → ℕ → Lent → Left
@@ -76,4 +102,8 @@ forgetsAllocs =
       removePort = lingbarrow .removePort;
       giveKey = lingbarrow .giveKey;
       stretchPlace = lingbarrow .stretchPlace;
+      writeHlend = lingbarrow .writeHlend;
+      writeAllocation = lingbarrow .writeAllocation;
+      writeXgem = lingbarrow .writeXgem;
+      writeXgemFrame = lingbarrow .writeXgemFrame;
     }

@@ -1,5 +1,5 @@
--- Demand 3 bites: an engine with one fixed plan does not meet it. The first frame after power-on has no map, and in O1 nothing
--- may be sent.
+-- Demands 2 and 3 bite. An engine with one fixed plan does not meet demand 3: the first frame after power-on has no map, and in
+-- O1 nothing may be sent. One that writes no header does not meet demand 2.
 -- Assumes nothing.
 use Prim.Native.Nat.{ℕ}
 use native.Mathlib.Omega.{arith}
@@ -15,7 +15,7 @@ use Rattle.hec.proofs.SyndromeRule.{syndromes}
 use Rattle.hec.proofs.FlipRule.{flips}
 use Rattle.framing.specs.declared.hlend.Hlend.{Hlend}
 use Rattle.framing.specs.Layouts.{hlendOf}
-use Rattle.framing.specs.Reads.{fields, taken, readHlend}
+use Rattle.framing.specs.Reads.{Found, fields, unreadable, short, taken, readHlend}
 use Rattle.station.specs.declared.answers.Answer.the-variants.{Done}
 use Rattle.station.specs.Station.{powerOn}
 use Rattle.bwmap.specs.Laser.{opens, granted, sending}
@@ -29,7 +29,8 @@ use Rattle.demands.specs.Engine.{lingbarrow}
 use Rattle.demands.specs.Runs.{Buffers, frame, start, lend, runOf}
 use Rattle.demands.proofs.Bite.{searching}
 use Rattle.demands.specs.Demand3.{Demand3}
-use Rattle.demands.specs.Wrong.{fixedPlan}
+use Rattle.demands.specs.Demand2.{Demand2}
+use Rattle.demands.specs.Wrong.{fixedPlan, writesNoHeader}
 
 pub bare : List ℕ
 bare = 0 ∷ 0 ∷ 0 ∷ 0 ∷ []
@@ -80,3 +81,17 @@ unfolding lent
 one-frame-away =
     let o = only (powerOn [] []) bare 0 lent Done (handled (powerOn [] []) noEntries bare 0 lent) handled-bare in
     ap (λ (x : Left). x .outcome .station) (sym (o .0)) ∙ handled-left
+
+-- ---- and demand 2: an engine that writes no header does not meet it
+
+hlendIn : Found Hlend → ℕ
+hlendIn (fields h) = h .bwmap
+hlendIn unreadable = 0
+hlendIn short = 0
+
+pub writes-no-header : Demand2 writesNoHeader → ⊥
+unfolding bare noEntries hlendIn
+writes-no-header d =
+    let read : readHlend bare ≡ fields (record { bwmap = 1; ploam = 0 }) = d .hlend (record { bwmap = 1; ploam = 0 }) refl bare (omega arith) in
+    let n : _≡_ {A = ℕ} 0 1 = ap hlendIn (sym reads-bare ∙ read) in
+    omega (arith, n)
