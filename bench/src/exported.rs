@@ -18,6 +18,18 @@ extern "C" {
     pub fn lingbarrow_stretch(s: *const u8, sn: usize, f: *const u8, f_n: usize, k: usize, p: *mut usize, pn: usize) -> u8;
 }
 
+/// A small generator of numbers, the same in every run.
+pub struct Rng(pub u64);
+
+impl Rng {
+    pub fn next(&mut self) -> u64 {
+        self.0 ^= self.0 << 13;
+        self.0 ^= self.0 >> 7;
+        self.0 ^= self.0 << 17;
+        self.0
+    }
+}
+
 /// The one form of a state, by the table of crates/layout/specs/Layout.antt.
 pub fn octets(s: &Station) -> [u8; STATE] {
     let mut o = Vec::with_capacity(STATE);

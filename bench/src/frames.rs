@@ -14,16 +14,7 @@ use xgpon_peer::*;
 
 const KEY: [u8; 16] = *b"an installed key";
 
-struct Rng(u64);
-
 impl Rng {
-    fn next(&mut self) -> u64 {
-        self.0 ^= self.0 << 13;
-        self.0 ^= self.0 >> 7;
-        self.0 ^= self.0 << 17;
-        self.0
-    }
-
     /// The word with two of its bits flipped.
     fn damaged(&mut self, w: u64) -> u64 {
         let a = self.next() % 64;

@@ -13,16 +13,7 @@ use xgpon_peer::{frame, stretch, Activation, AllocId, Allocation, Lent, OnuId, O
 
 const COUNTS_BEFORE: [usize; 3] = [7, 7, 7];
 
-struct Rng(u64);
-
 impl Rng {
-    fn next(&mut self) -> u64 {
-        self.0 ^= self.0 << 13;
-        self.0 ^= self.0 >> 7;
-        self.0 ^= self.0 << 17;
-        self.0
-    }
-
     fn below(&mut self, n: u64) -> u64 {
         self.next() % n
     }
