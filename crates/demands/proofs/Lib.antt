@@ -6,7 +6,8 @@ pub mod Planning
 pub mod Timeline
 pub mod MeetsDemand3
 pub mod MeetsDemand1
+pub mod ShortRun
 pub mod Bite
-pub mod BiteFromPowerOn
+pub mod Forgets
 pub mod Keeps
 pub mod MeetsDemand2
