@@ -27,7 +27,7 @@ use Rattle.demands.specs.Demand1.{Demand1}
 use Rattle.demands.specs.Demand2.{Demand2}
 use Rattle.demands.specs.Demand3.{sent, burstsFrom, Demand3}
 use Rattle.demands.specs.Wrong.{counting, refusesAll, fixedPlan, writesNothing, writesNoHeader, firstBy, firstOnly, inventedCounts}
-use Rattle.demands.proofs.ShortRun.{bare, two, memory, buffers, lent, noEntries, twoEntries, grantAt, seriesFrom, reads-bare, reads-two, searching, left-bare, Searches, bare-searches, left-two, answer-two, two-planned, asked}
+use Rattle.demands.proofs.ShortRun.{bare, two, memory, buffers, lent, noEntries, twoEntries, grantAt, seriesFrom, reads-bare, reads-two, searching, left-bare, Leads, bare-leads, left-two, answer-two, two-planned, asked}
 
 -- the first frame of a run is answered 1, though the state is in range
 pub refuses-all : Demand1 refusesAll → ⊥
@@ -63,7 +63,7 @@ pub fixed-plan : Demand3 fixedPlan → ⊥
 unfolding opens granted sending
 fixed-plan d =
     let done : frameLeft (powerOn [] []) bare 0 lent .outcome .answer ≡ Done
-    = ap (λ (x : Left). x .outcome .answer) (sym left-bare) ∙ bare-searches .answer in
+    = ap (λ (x : Left). x .outcome .answer) (sym left-bare) ∙ bare-leads .answer in
     true≢false (d .plans [] [] memory [] bare 0 buffers (inl done) noEntries reads-bare .each .0 .sends)
 
 -- ---- the second frame
@@ -74,8 +74,8 @@ grants [] = 0
 grants (b ∷ l) = length (b .grants) + grants l
 
 -- where the first frame goes as with this engine
-this-searches : Searches (frameLeft (powerOn [] []) bare 0 lent)
-this-searches = subst Searches left-bare bare-searches
+this-leads : Leads (frameLeft (powerOn [] []) bare 0 lent) searching
+this-leads = subst (λ (x : Left). Leads x searching) left-bare bare-leads
 
 this-done : frameLeft searching two 0 lent .outcome .answer ≡ Done
 this-done = ap (λ (x : Left). x .outcome .answer) (sym left-two) ∙ answer-two
@@ -92,7 +92,7 @@ plan-two = ap (λ (x : Left). x .lent .plan) (sym left-two) ∙ ap (λ (l : List
 pub writes-nothing : Demand3 writesNothing → ⊥
 unfolding buffers opens granted sending seriesFrom grantAt
 writes-nothing d =
-    let a = this-searches in
+    let a = this-leads in
     let e = asked (λ s f delay l. record { outcome = frameLeft s f delay l .outcome; lent = l }) d (record { answer = a .answer; station = a .station; memory = refl }) this-done in
     let n : _≡_ {A = ℕ} 0 2 = ap (λ (k : ℕ). length (laser k (buffers .plan))) (sym records-two) ∙ ap length e in
     omega (arith, n)
@@ -101,7 +101,7 @@ writes-nothing d =
 pub invented-counts : Demand3 inventedCounts → ⊥
 unfolding buffers opens granted sending seriesFrom grantAt grants seriesNumbers headFlags burstFlags
 invented-counts d =
-    let a = this-searches in
+    let a = this-leads in
     let e = asked (λ s f delay l. counting (frameLeft s f delay l .outcome .records + 1) (frameLeft s f delay l .lent .plan) (frameLeft s f delay l)) d (record { answer = a .answer; station = a .station; memory = a .memory }) this-done in
     let n : _≡_ {A = ℕ} 3 2 = ap₂ (λ (k : ℕ) (p : List ℕ). grants (laser (k + 1) p)) (sym records-two) (sym plan-two) ∙ ap grants e in
     omega (arith, n)
@@ -116,7 +116,7 @@ unfolding buffers opens granted sending seriesFrom grantAt seriesNumbers headFla
 first-only d =
     let goes : firstBy (readHlend two) searching two 0 lent ≡ firstBy (fields twoEntries) searching two 0 lent
     = ap (λ (r : Found Hlend). firstBy r searching two 0 lent) reads-two in
-    let e = asked (λ s f delay l. firstBy (readHlend f) s f delay l) d (subst Searches (sym first-bare) bare-searches) (ap (λ (x : Left). x .outcome .answer) goes ∙ answer-two) in
+    let e = asked (λ s f delay l. firstBy (readHlend f) s f delay l) d (subst (λ (x : Left). Leads x searching) (sym first-bare) bare-leads) (ap (λ (x : Left). x .outcome .answer) goes ∙ answer-two) in
     let n : _≡_ {A = ℕ} 1 2
     = ap (λ (l : List Series). length (laser (records (take 1 l)) (written (take 1 l) (buffers .plan)))) (sym two-planned) ∙ ap (λ (x : Left). length (sent x)) (sym goes) ∙ ap length e in
     omega (arith, n)

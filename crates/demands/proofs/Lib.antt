@@ -8,6 +8,7 @@ pub mod MeetsDemand3
 pub mod MeetsDemand1
 pub mod ShortRun
 pub mod Bite
+pub mod Activated
 pub mod Forgets
 pub mod Keeps
 pub mod MeetsDemand2

@@ -53,7 +53,7 @@ unfoldable pub memory : List ℕ
 memory = replicate 34816 0
 
 unfoldable pub buffers : Buffers
-buffers = record { plan = replicate 256 0; replies = replicate 192 0; deliveries = replicate 34836 0 }
+buffers = record { plan = replicate 256 0; replies = replicate 192 0; deliveries = replicate 34964 0 }
 
 abbrev pub lent : Lent
 lent = lend (start (powerOn [] []) memory) buffers
@@ -111,19 +111,19 @@ handled-bare =
 pub left-bare : handled (powerOn [] []) noEntries bare 0 lent ≡ frameLeft (powerOn [] []) bare 0 lent
 left-bare = only (powerOn [] []) bare 0 lent Done (handled (powerOn [] []) noEntries bare 0 lent) handled-bare .0
 
--- what a frame call may leave of the first frame for the second to find the same
-pub record Searches (left : Left) : Type 0 where
+-- what the next call of a run finds of what a frame call left, where that answered 0 and wrote no port memory
+pub record Leads (left : Left) (to : Station) : Type 0 where
   pub answer : left .outcome .answer ≡ Done
-  pub station : left .outcome .station ≡ searching
+  pub station : left .outcome .station ≡ to
   pub memory : left .lent .memory ≡ memory
 
-pub bare-searches : Searches (handled (powerOn [] []) noEntries bare 0 lent)
+pub bare-leads : Leads (handled (powerOn [] []) noEntries bare 0 lent) searching
 unfolding handled done sentBy next plannedIn repliesIn payloadIn bare noEntries searching frameEnd
-bare-searches = record { answer = refl; station = refl; memory = refl }
+bare-leads = record { answer = refl; station = refl; memory = refl }
 
 -- ---- this engine in O2-3: both grants are planned
 
-searching-sound : Sound searching
+pub searching-sound : Sound searching
 unfolding searching
 searching-sound = enter-sound (powerOn [] []) SerialNumber refl refl (power-on-sound [] [])
 
@@ -189,15 +189,15 @@ obeyed h bursts e o =
 searched : stationOf (powerOn [] []) (befell Done (powerOn [] []) bare lent []) ≡ searching
 searched =
     ap (λ (a : Answer). stationOf (powerOn [] []) (befell a (powerOn [] []) bare lent []))
-    (sym (bare-searches .answer) ∙ ap (λ (x : Left). x .outcome .answer) left-bare)
-    ∙ frame-history (powerOn [] []) [] bare 0 lent ∙ ap (λ (x : Left). x .outcome .station) (sym left-bare) ∙ bare-searches .station
+    (sym (bare-leads .answer) ∙ ap (λ (x : Left). x .outcome .answer) left-bare)
+    ∙ frame-history (powerOn [] []) [] bare 0 lent ∙ ap (λ (x : Left). x .outcome .station) (sym left-bare) ∙ bare-leads .station
 
 module _ (call : Station → List ℕ → ℕ → Lent → Left) where
   abbrev first : Standing
   first = runOf (withFrame call) [] [] memory (frame bare 0 buffers ∷ [])
 
   -- an engine that goes with the first frame to O2-3 and answers the second with 0 sends two bursts in it
-  pub asked : Demand3 (withFrame call) → Searches (call (powerOn [] []) bare 0 lent) → call searching two 0 lent .outcome .answer ≡ Done
+  pub asked : Demand3 (withFrame call) → Leads (call (powerOn [] []) bare 0 lent) searching → call searching two 0 lent .outcome .answer ≡ Done
       → sent (call searching two 0 lent) ≡ burstsOf (seriesFrom 0 ∷ seriesFrom 100 ∷ [])
   asked d a answer =
       let same : call (first .station) two 0 (lend first buffers) ≡ call searching two 0 lent
