@@ -1,9 +1,9 @@
 -- One frame from O2-3 to O5: it brings Assign_ONU-ID, Ranging_Time and Assign_Alloc-ID, each signed under the default key. Their
 -- integrity fields stand as what the key gives, and are right because what is signed is found right; none is computed.
 -- Assumes nothing.
-use Prim.Native.Nat.{ℕ, _+_, _/_, _≤_}
+use Prim.Native.Nat.{ℕ, _+_, _/_}
 use native.Mathlib.Omega.{arith}
-use mathlib.Core.Path.{_≡_, _∙_, refl, sym, ap, ap₂, subst}
+use mathlib.Core.Path.{_≡_, _∙_, refl, sym, ap, ap₂}
 use mathlib.Core.Bool.{Bool, true, false, cond}
 use mathlib.Core.List.{List, [], _∷_, _++_, append-assoc, append-nil}
 use lib.Dec.{lit<, ltb}
@@ -27,23 +27,28 @@ use Rattle.ploam.specs.declared.Received.{Received}
 use Rattle.ploam.specs.declared.Received.the-variants.{Whole, Short}
 use Rattle.ploam.proofs.RoundTrip.{signed-right}
 use Rattle.station.specs.declared.Station.{Station}
-use Rattle.station.specs.declared.answers.Answer.the-variants.{Done}
+use Rattle.station.specs.declared.Activation.{Activation}
+use Rattle.station.specs.declared.Activation.the-variants.{Operation}
+use Rattle.station.specs.declared.held.Allocs.{Allocs}
 use Rattle.station.specs.declared.held.Completion.the-variants.{Ok}
+use Rattle.station.specs.declared.held.Owed.{Owed}
+use Rattle.station.specs.declared.held.Response.the-variants.{Acknowledgement}
+use Rattle.station.specs.declared.slots.Ports.{Ports}
+use Rattle.station.specs.Held.{noKey, noAllocs, noneOwed, addAlloc, owe}
+use Rattle.station.specs.Slots.{noPorts, clearManagement}
 use Rattle.timing.specs.Timing.{frameEnd}
-use Rattle.effects.specs.declared.Change.the-variants.{Range, AddAlloc}
+use Rattle.effects.specs.declared.Change.the-variants.{Range}
 use Rattle.effects.specs.Effects.{answers}
 use Rattle.effects.specs.Ranging.{rangingTime}
 use Rattle.effects.specs.Decisions.{assignOnuId, assignAllocId, isBroadcast, isOurs, effectOf}
 use Rattle.effects.specs.Changes.{identify, range, applied}
 use Rattle.effects.specs.Acts.{act}
 use Rattle.activation.specs.Receiving.{acting, receive, messagesFrom, messagesIn, receiveAll}
-use Rattle.conduct.proofs.InRange.{sound-in-range}
 use Rattle.engine.specs.Lengths.{lengthFits, enough, buffersFit}
 use Rattle.engine.specs.Partitions.{messagesOf}
-use Rattle.engine.specs.Frame.{Left, plannedIn, repliesIn, payloadIn, sentBy, next, done, handled, frameLeft}
+use Rattle.engine.specs.Frame.{plannedIn, repliesIn, payloadIn, sentBy, next, done, handled, frameLeft}
 use Rattle.engine.specs.Answers.{lostIn, Handled}
-use Rattle.engine.proofs.Table.{only}
-use Rattle.demands.proofs.ShortRun.{memory, buffers, lent, searching, searching-sound, Leads}
+use Rattle.demands.proofs.RefutingRuns.{serial, registration, memory, buffers, lent, Leads, led, searching, searching-in-range}
 
 -- ---- a signed message acts
 
@@ -91,25 +96,43 @@ rangingOf = 0 ∷ 5 ∷ 4 ∷ 2 ∷ 1 ∷ replicate 35 0
 assignAlloc : List ℕ
 assignAlloc = 0 ∷ 5 ∷ 10 ∷ 3 ∷ 4 ∷ 0 ∷ 1 ∷ replicate 33 0
 
-unfoldable pub identified : Station
+-- the station that the first has in O4, both have in O5, and all three
+identified : Station
 identified = identify searching (record { 0 = 5 })
 
-unfoldable pub ranged : Station
+ranged : Station
 ranged = applied identified (answers (Range 0) Ok 2)
 
-unfoldable pub operating : Station
-operating = applied ranged (answers (AddAlloc (record { 0 = 1024 })) Ok 3)
+abbrev pub okTo : ℕ → Owed
+okTo seq = record { response = Acknowledgement Ok; «seq_no» = seq }
+
+abbrev pub stationWith : Activation → Allocs → Ports → Station
+stationWith activation allocs ports =
+    record {
+      activation = activation;
+      serial = serial;
+      registration = registration;
+      link = record { onu = record { 0 = 5 }; allocs = allocs; delay = 0; key = noKey; owed = owe (owe noneOwed (okTo 2)) (okTo 3) };
+      ports = ports;
+      carried = 0;
+    }
+
+abbrev pub given : Allocs
+given = addAlloc noAllocs (record { 0 = 1024 })
+
+abbrev pub operating : Station
+operating = stationWith Operation given (clearManagement noPorts)
 
 to-o4 : receive searching (signed assignOnu) ≡ identified
-unfolding assignOnu signed searching identified act isOurs isBroadcast effectOf contentAs assignOnuId applied
+unfolding assignOnu signed identified act isOurs isBroadcast effectOf contentAs assignOnuId applied
 to-o4 = signed-acts searching assignOnu refl refl
 
 to-o5 : receive identified (signed rangingOf) ≡ ranged
-unfolding rangingOf signed searching identified ranged identify act isOurs isBroadcast effectOf contentAs rangingTime applied
+unfolding rangingOf signed identified ranged identify act isOurs isBroadcast effectOf contentAs rangingTime applied
 to-o5 = signed-acts identified rangingOf refl refl
 
 to-alloc : receive ranged (signed assignAlloc) ≡ operating
-unfolding assignAlloc signed searching identified ranged operating identify range act isOurs isBroadcast effectOf contentAs assignAllocId applied
+unfolding assignAlloc signed identified ranged identify range act isOurs isBroadcast effectOf contentAs assignAllocId applied
 to-alloc = signed-acts ranged assignAlloc refl refl
 
 -- ---- the frame of the three
@@ -161,11 +184,11 @@ activating-long =
     omega arith
 
 handled-activating : Handled searching activating 0 lent false (handled searching threeMessages activating 0 lent)
-unfolding lostIn lengthFits enough memory buffers searching threeMessages
+unfolding lostIn lengthFits enough memory buffers threeMessages
 handled-activating =
     record {
       passed = record {
-        state = sound-in-range searching searching-sound;
+        state = searching-in-range;
         frame = ap lengthFits activating-long;
         buffers = ap (λ (n : ℕ). buffersFit n lent) activating-long;
       };
@@ -177,14 +200,12 @@ handled-activating =
     }
 
 activating-leaves : handled searching threeMessages activating 0 lent .outcome .station ≡ operating
-unfolding handled done sentBy next plannedIn repliesIn payloadIn threeMessages searching frameEnd operating ranged identified applied identify range
+unfolding handled done sentBy next plannedIn repliesIn payloadIn threeMessages frameEnd
 activating-leaves = ap (λ (s : Station). frameEnd s false) received-activating
 
 activating-keeps : handled searching threeMessages activating 0 lent .lent .memory ≡ memory
-unfolding handled done payloadIn searching
+unfolding handled done payloadIn
 activating-keeps = refl
 
 pub activated : Leads (frameLeft searching activating 0 lent) operating
-activated =
-    let o = only searching activating 0 lent Done (handled searching threeMessages activating 0 lent) handled-activating in
-    subst (λ (x : Left). Leads x operating) (o .0) (record { answer = o .1; station = activating-leaves; memory = activating-keeps })
+activated = led searching operating activating threeMessages handled-activating activating-leaves activating-keeps

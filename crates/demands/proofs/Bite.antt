@@ -1,7 +1,7 @@
--- The demands bite: no engine that the paper shuts out by name meets them. Each is refuted by a run of one or two frames from
--- power-on, those of ShortRun. Forgets has the one that forgets an Alloc-ID.
--- An engine that refuses all meets demand 3 to the letter: that demand is about bursts, and of frames about those answered 0
--- or 6, and it plans none and answers so to none. Demand 1 is what shuts it out: refusals are exact.
+-- The demands bite: no engine that the paper shuts out by name meets them. Each that has the frame call wrong is refuted by a run
+-- from power-on: of a bare frame, or of that and one with two discovery grants. Forgets has the one that forgets an Alloc-ID.
+-- An engine that refuses all meets demand 3 to the letter: that demand is about what is sent and about frames answered 0 or 6,
+-- and it sends nothing and answers no frame so. Demand 1 shuts it out: refusals are exact.
 -- Assumes nothing.
 use Prim.Native.Nat.{ℕ, _+_}
 use native.Mathlib.Omega.{arith}
@@ -27,12 +27,13 @@ use Rattle.demands.specs.Demand1.{Demand1}
 use Rattle.demands.specs.Demand2.{Demand2}
 use Rattle.demands.specs.Demand3.{sent, burstsFrom, Demand3}
 use Rattle.demands.specs.Wrong.{counting, refusesAll, fixedPlan, writesNothing, writesNoHeader, firstBy, firstOnly, inventedCounts}
-use Rattle.demands.proofs.ShortRun.{bare, two, memory, buffers, lent, noEntries, twoEntries, grantAt, seriesFrom, reads-bare, reads-two, searching, left-bare, Leads, bare-leads, left-two, answer-two, two-planned, asked}
+use Rattle.demands.proofs.RefutingRuns.{serial, registration, fresh, memory, buffers, lent, Leads, bare, noEntries, reads-bare, searching, left-bare, bare-leads}
+use Rattle.demands.proofs.TwoGrants.{two, twoEntries, grantAt, seriesFrom, reads-two, left-two, answer-two, two-planned, sends-both}
 
 -- the first frame of a run is answered 1, though the state is in range
 pub refuses-all : Demand1 refusesAll → ⊥
 refuses-all d =
-    true≢false (sym (sound-in-range (powerOn [] []) (power-on-sound [] [])) ∙ d .frame (runOf refusesAll [] [] memory [] .station) bare 0 lent .0)
+    true≢false (sym (sound-in-range fresh (power-on-sound serial registration)) ∙ d .frame (runOf refusesAll serial registration memory [] .station) bare 0 lent .0)
 
 refused-sends : (first : Station) (st : Standing) (calls : List Call) → burstsFrom refusesAll first st calls ≡ []
 refused-sends first st [] = refl
@@ -62,9 +63,7 @@ refuses-all-in-silence =
 pub fixed-plan : Demand3 fixedPlan → ⊥
 unfolding opens granted sending
 fixed-plan d =
-    let done : frameLeft (powerOn [] []) bare 0 lent .outcome .answer ≡ Done
-    = ap (λ (x : Left). x .outcome .answer) (sym left-bare) ∙ bare-leads .answer in
-    true≢false (d .plans [] [] memory [] bare 0 buffers (inl done) noEntries reads-bare .each .0 .sends)
+    true≢false (d .plans serial registration memory [] bare 0 buffers (inl (bare-leads .answer)) noEntries reads-bare .each .0 .sends)
 
 -- ---- the second frame
 
@@ -72,10 +71,6 @@ fixed-plan d =
 grants : List Sending → ℕ
 grants [] = 0
 grants (b ∷ l) = length (b .grants) + grants l
-
--- where the first frame goes as with this engine
-this-leads : Leads (frameLeft (powerOn [] []) bare 0 lent) searching
-this-leads = subst (λ (x : Left). Leads x searching) left-bare bare-leads
 
 this-done : frameLeft searching two 0 lent .outcome .answer ≡ Done
 this-done = ap (λ (x : Left). x .outcome .answer) (sym left-two) ∙ answer-two
@@ -92,8 +87,7 @@ plan-two = ap (λ (x : Left). x .lent .plan) (sym left-two) ∙ ap (λ (l : List
 pub writes-nothing : Demand3 writesNothing → ⊥
 unfolding buffers opens granted sending seriesFrom grantAt
 writes-nothing d =
-    let a = this-leads in
-    let e = asked (λ s f delay l. record { outcome = frameLeft s f delay l .outcome; lent = l }) d (record { answer = a .answer; station = a .station; memory = refl }) this-done in
+    let e = sends-both (λ s f delay l. record { outcome = frameLeft s f delay l .outcome; lent = l }) d (record { answer = bare-leads .answer; station = bare-leads .station; memory = refl }) this-done in
     let n : _≡_ {A = ℕ} 0 2 = ap (λ (k : ℕ). length (laser k (buffers .plan))) (sym records-two) ∙ ap length e in
     omega (arith, n)
 
@@ -101,14 +95,13 @@ writes-nothing d =
 pub invented-counts : Demand3 inventedCounts → ⊥
 unfolding buffers opens granted sending seriesFrom grantAt grants seriesNumbers headFlags burstFlags
 invented-counts d =
-    let a = this-leads in
-    let e = asked (λ s f delay l. counting (frameLeft s f delay l .outcome .records + 1) (frameLeft s f delay l .lent .plan) (frameLeft s f delay l)) d (record { answer = a .answer; station = a .station; memory = a .memory }) this-done in
+    let e = sends-both (λ s f delay l. counting (frameLeft s f delay l .outcome .records + 1) (frameLeft s f delay l .lent .plan) (frameLeft s f delay l)) d (record { answer = bare-leads .answer; station = bare-leads .station; memory = bare-leads .memory }) this-done in
     let n : _≡_ {A = ℕ} 3 2 = ap₂ (λ (k : ℕ) (p : List ℕ). grants (laser (k + 1) p)) (sym records-two) (sym plan-two) ∙ ap grants e in
     omega (arith, n)
 
-first-bare : firstBy (readHlend bare) (powerOn [] []) bare 0 lent ≡ handled (powerOn [] []) noEntries bare 0 lent
+first-bare : firstBy (readHlend bare) fresh bare 0 lent ≡ handled fresh noEntries bare 0 lent
 unfolding bare noEntries handled plannedIn
-first-bare = ap (λ (r : Found Hlend). firstBy r (powerOn [] []) bare 0 lent) reads-bare
+first-bare = ap (λ (r : Found Hlend). firstBy r fresh bare 0 lent) reads-bare
 
 -- the second series is neither planned nor left out for a fact
 pub first-only : Demand3 firstOnly → ⊥
@@ -116,7 +109,7 @@ unfolding buffers opens granted sending seriesFrom grantAt seriesNumbers headFla
 first-only d =
     let goes : firstBy (readHlend two) searching two 0 lent ≡ firstBy (fields twoEntries) searching two 0 lent
     = ap (λ (r : Found Hlend). firstBy r searching two 0 lent) reads-two in
-    let e = asked (λ s f delay l. firstBy (readHlend f) s f delay l) d (subst (λ (x : Left). Leads x searching) (sym first-bare) bare-leads) (ap (λ (x : Left). x .outcome .answer) goes ∙ answer-two) in
+    let e = sends-both (λ s f delay l. firstBy (readHlend f) s f delay l) d (subst (λ (x : Left). Leads x searching) (sym (first-bare ∙ left-bare)) bare-leads) (ap (λ (x : Left). x .outcome .answer) goes ∙ answer-two) in
     let n : _≡_ {A = ℕ} 1 2
     = ap (λ (l : List Series). length (laser (records (take 1 l)) (written (take 1 l) (buffers .plan)))) (sym two-planned) ∙ ap (λ (x : Left). length (sent x)) (sym goes) ∙ ap length e in
     omega (arith, n)

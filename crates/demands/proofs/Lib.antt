@@ -6,7 +6,8 @@ pub mod Planning
 pub mod Timeline
 pub mod MeetsDemand3
 pub mod MeetsDemand1
-pub mod ShortRun
+pub mod RefutingRuns
+pub mod TwoGrants
 pub mod Bite
 pub mod Activated
 pub mod Forgets
