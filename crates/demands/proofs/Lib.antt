@@ -6,7 +6,10 @@ pub mod Planning
 pub mod Timeline
 pub mod MeetsDemand3
 pub mod MeetsDemand1
+pub mod RefutingRuns
+pub mod TwoGrants
 pub mod Bite
-pub mod BiteFromPowerOn
+pub mod Activated
+pub mod Forgets
 pub mod Keeps
 pub mod MeetsDemand2

@@ -2,7 +2,6 @@
 -- thing wrong.
 -- Assumes nothing.
 use Prim.Native.Nat.{ℕ, _+_}
-use mathlib.Core.Bool.{Bool, true, false, cond}
 use mathlib.Core.List.{List, _∷_}
 use lib.ListN.{take, drop}
 use Rattle.framing.specs.declared.hlend.Hlend.{Hlend}
@@ -10,22 +9,21 @@ use Rattle.framing.specs.Reads.{Found, fields, unreadable, short, readHlend}
 use Rattle.framing.specs.Writes as writing
 use Rattle.framing.specs.declared.octets.Written.the-variants as Written
 use Rattle.station.specs.declared.Station.{Station}
-use Rattle.station.specs.declared.answers.Answer.{Answer}
-use Rattle.station.specs.declared.answers.Answer.the-variants.{Done, StateOutOfRange, FrameLengthUnfit, BufferTooShort, HlendUnreadable, HeaderTooLong, DelineationLost, PortOutOfRange, PortHeldOrNotHeld, SlotsTaken, KeyRefused, NotWritten}
+use Rattle.station.specs.declared.answers.Answer.the-variants.{StateOutOfRange}
 use Rattle.station.specs.Held.{noAllocs, withAllocs}
 use Rattle.station.specs.Station.{withLink}
-use Rattle.host.specs.declared.Outcome as host
+use Rattle.host.specs.declared.Outcome.{Outcome}
 use Rattle.engine.specs.Lengths.{Lent}
 use Rattle.engine.specs.Frame.{Left, refused, plannedIn, repliesIn, payloadIn, done, frameLeft}
 use Rattle.engine.specs.Times.{lostLeft}
 use Rattle.demands.specs.Engine.{Engine, lingbarrow}
 
-abbrev pub withFrame : (Station → List ℕ → ℕ → Lent → Left) → Engine
-withFrame call =
+abbrev pub withCalls : (Station → List ℕ → ℕ → Lent → Left) → (Station → Outcome) → Engine
+withCalls frame lost =
     record {
       powerOn = lingbarrow .powerOn;
-      frame = call;
-      lost = lingbarrow .lost;
+      frame = frame;
+      lost = lost;
       addPort = lingbarrow .addPort;
       removePort = lingbarrow .removePort;
       giveKey = lingbarrow .giveKey;
@@ -35,6 +33,9 @@ withFrame call =
       writeXgem = lingbarrow .writeXgem;
       writeXgemFrame = lingbarrow .writeXgemFrame;
     }
+
+abbrev pub withFrame : (Station → List ℕ → ℕ → Lent → Left) → Engine
+withFrame call = withCalls call (lingbarrow .lost)
 
 abbrev pub counting : ℕ → List ℕ → Left → Left
 counting n plan left =
@@ -94,16 +95,4 @@ forgetful s = withLink s (withAllocs (s .link) noAllocs)
 
 abbrev pub forgetsAllocs : Engine
 forgetsAllocs =
-    record {
-      powerOn = lingbarrow .powerOn;
-      frame = lingbarrow .frame;
-      lost = λ s. record { answer = lostLeft s .answer; station = forgetful (lostLeft s .station) };
-      addPort = lingbarrow .addPort;
-      removePort = lingbarrow .removePort;
-      giveKey = lingbarrow .giveKey;
-      stretchPlace = lingbarrow .stretchPlace;
-      writeHlend = lingbarrow .writeHlend;
-      writeAllocation = lingbarrow .writeAllocation;
-      writeXgem = lingbarrow .writeXgem;
-      writeXgemFrame = lingbarrow .writeXgemFrame;
-    }
+    withCalls (lingbarrow .frame) (λ s. record { answer = lostLeft s .answer; station = forgetful (lostLeft s .station) })

@@ -1,0 +1,197 @@
+-- What demand 3 asks of an engine at a frame of a run, where the station that the history leaves and the engine's own are
+-- known: the start is power-on, and a frame that is answered 0 leads on.
+-- Assumes nothing.
+use Prim.Native.Nat.{ℕ, _+_, _<_, _≤_, _^_}
+use native.Mathlib.Omega.{arith}
+use mathlib.Core.Path.{_≡_, _∙_, refl, sym, ap, ap₂, subst}
+use mathlib.Core.Logic.{inl}
+use mathlib.Core.Bool.{Bool, true, false, _&&_}
+use mathlib.Core.List.{List, [], _∷_}
+use lib.Dec.{lit<}
+use lib.ListN.{replicate}
+use Rattle.hec.specs.Reads.{Reading, word, reading}
+use Rattle.hec.specs.Lent.{readingBy}
+use Rattle.hec.proofs.Compute.{computed32}
+use Rattle.hec.proofs.LentReads.{lent64}
+use Rattle.hec.proofs.SyndromeRule.{syndromes, rule as syndrome-rule}
+use Rattle.hec.proofs.FlipRule.{flips, rule as flip-rule}
+use Rattle.framing.specs.declared.hlend.Hlend.{Hlend}
+use Rattle.framing.specs.Layouts.{hlendOf}
+use Rattle.framing.specs.Reads.{fields, taken, readHlend}
+use Rattle.station.specs.declared.Activation.the-variants.{SerialNumber}
+use Rattle.station.specs.declared.Station.{Station}
+use Rattle.station.specs.declared.answers.Answer.{Answer}
+use Rattle.station.specs.declared.answers.Answer.the-variants.{Done}
+use Rattle.station.specs.Limits.{serialOctets, registrationOctets}
+use Rattle.station.specs.Station.{powerOn, enter}
+use Rattle.ranges.specs.Ranges.{inRange}
+use Rattle.timing.specs.Timing.{frameEnd}
+use Rattle.payload.specs.Frames.{parse}
+use Rattle.bwmap.specs.Series.{Series, standings, seriesOf, burstWords, endOf}
+use Rattle.bwmap.specs.Promises.{Account, done as none-left, plans, too-long, overlapping, after-the-fourth}
+use Rattle.bwmap.specs.Laser.{Sending, burstsOf}
+use Rattle.conduct.proofs.InRange.{sound-in-range, power-on-sound, enter-sound}
+use Rattle.ledger.specs.Events.{stationOf}
+use Rattle.host.specs.declared.Outcome.{Outcome}
+use Rattle.engine.specs.Lengths.{Lent, lengthFits, enough}
+use Rattle.engine.specs.Partitions.{mapOf}
+use Rattle.engine.specs.Frame.{Left, ownOf, isOperating, plannedIn, repliesIn, payloadIn, sentBy, next, done, handled, frameLeft}
+use Rattle.engine.specs.Answers.{lostIn, Handled}
+use Rattle.engine.proofs.Table.{only}
+use Rattle.demands.specs.Runs.{Call, Buffers, frame, Standing, befell, lend, after, start, runOf}
+use Rattle.demands.specs.Demand3.{sent, Demand3}
+use Rattle.demands.specs.Wrong.{withCalls}
+use Rattle.demands.proofs.Runs.{frame-history}
+
+-- ---- power-on, with the bench run's serial number and Registration ID, and what is lent to every call
+
+abbrev pub serial : List ℕ
+serial = replicate serialOctets 0
+
+abbrev pub registration : List ℕ
+registration = replicate registrationOctets 0
+
+abbrev pub fresh : Station
+fresh = powerOn serial registration
+
+unfoldable pub memory : List ℕ
+memory = replicate 34816 0
+
+-- deliveries for a frame of up to 148 bytes
+unfoldable pub buffers : Buffers
+buffers = record { plan = replicate 256 0; replies = replicate 192 0; deliveries = replicate 34964 0 }
+
+abbrev pub lent : Lent
+lent = lend (start fresh memory) buffers
+
+-- ---- how far a run has come
+
+pub record Stands (st : Standing) (right own : Station) : Type 0 where
+  pub history : stationOf fresh (st .history) ≡ right
+  pub station : st .station ≡ own
+  pub memory : st .memory ≡ memory
+
+pub begun : Stands (start fresh memory) fresh fresh
+begun = record { history = refl; station = refl; memory = refl }
+
+-- what the next call finds of what a frame call left, where that answered 0 and wrote no port memory
+pub record Leads (left : Left) (to : Station) : Type 0 where
+  pub answer : left .outcome .answer ≡ Done
+  pub station : left .outcome .station ≡ to
+  pub memory : left .lent .memory ≡ memory
+
+-- what is sent is the series that an account has as planned
+pub record Asked (right : Station) (m : List ℕ) (bursts : List Sending) : Type 0 where
+  pub planned : List Series
+  pub are : bursts ≡ burstsOf planned
+  pub account : Account (right .carried) 0 (seriesOf (standings (ownOf right) m)) planned
+
+module _ (call : Station → List ℕ → ℕ → Lent → Left) (lose : Station → Outcome) where
+  module _ (st : Standing) (right own : Station) (k : Stands st right own) (f : List ℕ) where
+    same : call (st .station) f 0 (lend st buffers) ≡ call own f 0 lent
+    same = ap₂ (λ (s : Station) (m : List ℕ). call s f 0 (record { memory = m; plan = buffers .plan; replies = buffers .replies; deliveries = buffers .deliveries })) (k .station) (k .memory)
+
+    -- a frame that is answered 0, as it should be
+    pub on : (right′ own′ : Station) → Leads (frameLeft right f 0 lent) right′ → Leads (call own f 0 lent) own′
+        → Stands (after (withCalls call lose) fresh st (frame f 0 buffers)) right′ own′
+    on right′ own′ r w =
+        let h = st .history in
+        let l = lend st buffers in
+        let due : frameLeft (stationOf fresh h) f 0 l ≡ frameLeft right f 0 lent
+        = ap₂ (λ (s : Station) (m : List ℕ). frameLeft s f 0 (record { memory = m; plan = buffers .plan; replies = buffers .replies; deliveries = buffers .deliveries })) (k .history) (k .memory) in
+        let answers : call (st .station) f 0 l .outcome .answer ≡ frameLeft (stationOf fresh h) f 0 l .outcome .answer
+        = ap (λ (x : Left). x .outcome .answer) same ∙ w .answer ∙ sym (ap (λ (x : Left). x .outcome .answer) due ∙ r .answer) in
+        record {
+          history = ap (λ (a : Answer). stationOf fresh (befell a (stationOf fresh h) f l h)) answers
+              ∙ frame-history fresh h f 0 l ∙ ap (λ (x : Left). x .outcome .station) due ∙ r .station;
+          station = ap (λ (x : Left). x .outcome .station) same ∙ w .station;
+          memory = ap (λ (x : Left). x .lent .memory) same ∙ w .memory;
+        }
+
+  pub asked : Demand3 (withCalls call lose) → (calls : List Call) (right own : Station) → Stands (runOf (withCalls call lose) serial registration memory calls) right own
+      → (f : List ℕ) (h : Hlend) → readHlend f ≡ fields h → call own f 0 lent .outcome .answer ≡ Done → Asked right (mapOf h f) (sent (call own f 0 lent))
+  asked d calls right own k f h reads answer =
+      let st = runOf (withCalls call lose) serial registration memory calls in
+      let e = same st right own k f in
+      let o = d .plans serial registration memory calls f 0 buffers (inl (ap (λ (x : Left). x .outcome .answer) e ∙ answer)) h reads in
+      record {
+        planned = o .planned;
+        are = ap sent (sym e) ∙ o .are;
+        account = subst (λ (s : Station). Account (s .carried) 0 (seriesOf (standings (ownOf s) (mapOf h f))) (o .planned)) (k .history) (o .account);
+      }
+
+-- ---- the account
+
+-- a series that is not too long, does not overlap and comes before four are planned is planned
+pub record Next (s : Series) (l p : List Series) (n : ℕ) : Type 0 where
+  pub rest : List Series
+  pub is : p ≡ s ∷ rest
+  pub account : Account (endOf s) (n + 1) l rest
+
+pub next-planned
+    : {e n : ℕ} {s : Series} {l p : List Series} → burstWords s ≤ 9720 → e ≤ s .head .start → n < 4 → Account e n (s ∷ l) p → Next s l p n
+next-planned a b c (plans because rest) = record { rest = _; is = refl; account = rest }
+next-planned a b c (too-long because rest) = absurd (omega arith)
+next-planned a b c (overlapping because rest) = absurd (omega arith)
+next-planned a b c (after-the-fourth because rest) = absurd (omega arith)
+
+pub none-planned : {e n : ℕ} {p : List Series} → Account e n [] p → p ≡ []
+none-planned none-left = refl
+
+-- ---- an allocation structure's word, by computation
+
+pub computed64 : (w : ℕ) → w < 2 ^ 64 → (r : Reading) → readingBy syndromes flips 8 w ≡ r → reading 64 w ≡ r
+computed64 w h r e = sym (lent64 syndromes flips syndrome-rule flip-rule w h) ∙ e
+
+-- ---- a frame with no map and no message, at power-on and in any state
+
+unfoldable pub bare : List ℕ
+bare = 0 ∷ 0 ∷ 0 ∷ 0 ∷ []
+
+unfoldable pub noEntries : Hlend
+noEntries = record { bwmap = 0; ploam = 0 }
+
+pub reads-bare : readHlend bare ≡ fields noEntries
+unfolding bare noEntries syndromes flips
+reads-bare = ap (taken hlendOf) (computed32 0 (lit< tt) (word 0) refl)
+
+-- what a frame call that is handled leads to
+pub led : (s to : Station) (f : List ℕ) (h : Hlend) → Handled s f 0 lent false (handled s h f 0 lent) → handled s h f 0 lent .outcome .station ≡ to
+    → handled s h f 0 lent .lent .memory ≡ memory → Leads (frameLeft s f 0 lent) to
+led s to f h r station kept =
+    let o = only s f 0 lent Done (handled s h f 0 lent) r in
+    subst (λ (x : Left). Leads x to) (o .0) (record { answer = o .1; station = station; memory = kept })
+
+no-payload : (b : Bool) → (b && parse 4 [] .lost) ≡ false
+unfolding parse
+no-payload true = refl
+no-payload false = refl
+
+pub bare-handled : (s : Station) → inRange s ≡ true → Handled s bare 0 lent false (handled s noEntries bare 0 lent)
+unfolding lostIn lengthFits enough bare memory buffers noEntries
+bare-handled s ok =
+    record {
+      passed = record { state = ok; frame = refl; buffers = refl };
+      hlend = noEntries;
+      reads = reads-bare;
+      fits = omega arith;
+      delineation = no-payload (isOperating (s .activation));
+      leaves = refl;
+    }
+
+fresh-handled : Handled fresh bare 0 lent false (handled fresh noEntries bare 0 lent)
+fresh-handled = bare-handled fresh (sound-in-range fresh (power-on-sound serial registration))
+
+-- at power-on it leads to O2-3
+abbrev pub searching : Station
+searching = enter fresh SerialNumber
+
+pub searching-in-range : inRange searching ≡ true
+searching-in-range = sound-in-range searching (enter-sound fresh SerialNumber refl refl (power-on-sound serial registration))
+
+pub left-bare : handled fresh noEntries bare 0 lent ≡ frameLeft fresh bare 0 lent
+left-bare = only fresh bare 0 lent Done (handled fresh noEntries bare 0 lent) fresh-handled .0
+
+pub bare-leads : Leads (frameLeft fresh bare 0 lent) searching
+unfolding handled done sentBy next plannedIn repliesIn payloadIn bare noEntries frameEnd
+bare-leads = led fresh searching bare noEntries fresh-handled refl refl
