@@ -55,6 +55,16 @@ pub fn read_hlend(s: &[u8]) -> HlendRead
     found(hec::read32(octets::word32(s)))
 }
 
+// The same by lent tables, for a whole frame.
+pub fn read_hlend_by(syndromes: &[u16; 2048], flips: &[u16; 4096], s: &[u8]) -> HlendRead
+    ensures { λ r. ⌜ foundHlend r ≡ readAs (λ w. sent (readingBy (now (syndromes .entry)) (now (flips .entry)) 4 w)) 4 hlendOf (now (s .entry)) ⌝ }
+{
+    if s.len() < 4 {
+        return HlendRead::Short;
+    }
+    found(hec::read32_by(syndromes, flips, octets::word32(s)))
+}
+
 // HLend of the fields given, at the start of a target.
 pub fn write_hlend(h: Hlend, target: &mut [u8]) -> Written
     ensures { λ r. ⌜ record { answer = r; target = now (target .exit) } ≡ writeHlend h (now (target .entry)) ⌝ }
