@@ -155,8 +155,17 @@ fn walk_map(
     w
 }
 
-// The plan of a map: records of four numbers at the start of the lent plan, the rest of which keeps its content.
-pub fn plan_map(map: &[u8], own: Own, carried: u16, plan: &mut [u16]) -> Answer
+// The plan of a map: records of four numbers at the start of the lent plan, the rest of which keeps its content. The tables
+// are those of hec, lent by a caller that reads more of a frame than its map.
+pub fn plan_map_by(
+    syndromes: &[u16; 2048],
+    flips: &[u16; 4096],
+    map: &[u8],
+    own: Own,
+    carried: u16,
+    plan: &mut [u16],
+) -> Answer
+    requires { ⌜ Tables (now syndromes) (now flips) ⌝ }
     ensures { λ r. ⌜ MapLeaves own (now (map .entry)) carried (now (plan .entry)) r (now (plan .exit)) ⌝ }
 {
     if plan.len() < PLAN_NUMBERS {
@@ -172,9 +181,7 @@ pub fn plan_map(map: &[u8], own: Own, carried: u16, plan: &mut [u16]) -> Answer
             carried: carried_over(end),
         });
     }
-    let syndromes = hec::syndromes::table();
-    let flips = hec::flips::table();
-    let w = walk_map(&syndromes, &flips, map, own, carried, plan);
+    let w = walk_map(syndromes, flips, map, own, carried, plan);
     Answer::Planned(Plan {
         records: w.records,
         bursts: w.bursts,
@@ -182,4 +189,13 @@ pub fn plan_map(map: &[u8], own: Own, carried: u16, plan: &mut [u16]) -> Answer
         end: w.end,
         carried: carried_over(w.end),
     })
+}
+
+// The same where nothing else is read.
+pub fn plan_map(map: &[u8], own: Own, carried: u16, plan: &mut [u16]) -> Answer
+    ensures { λ r. ⌜ MapLeaves own (now (map .entry)) carried (now (plan .entry)) r (now (plan .exit)) ⌝ }
+{
+    let syndromes = hec::syndromes::table();
+    let flips = hec::flips::table();
+    plan_map_by(&syndromes, &flips, map, own, carried, plan)
 }

@@ -1,0 +1,70 @@
+use mathlib.Core.Path.{_∙_, sym}
+use borrow.Author.Tests.{lt-leb, le-leb}
+use denote.Ref.{now}
+use Rattle.bwmap.specs.Series.{plannedOf}
+use Rattle.bwmap.proofs.Steps.{from-start, finish, silent-plan}
+use borrow.Author.Needs.{needs}
+use Rattle.bwmap.proofs.plan_map_by.Statement.{statement}
+use Rattle.bwmap.proofs.plan_map_by.Tie as tie
+use Rattle.bwmap.proofs.plan_map_by.Reads as reads
+use Rattle.bwmap.proofs.plan_map_by.Lts as lts
+use Rattle.bwmap.proofs.carried_over.Reads as carried-over-reads
+use Rattle.bwmap.proofs.series.long.Reads as long-reads
+use Rattle.bwmap.proofs.walk_map.Reads as walk-map-reads
+use Rattle.entries.proofs.Own.is_silent.Reads as is-silent-reads
+
+-- src/lib.rt:172:9
+returns : tie.Need-returns
+returns c = rw (lt-leb _ _ (c .if1 .taken))
+
+-- src/lib.rt:174:8
+is-silent-requires : tie.Need-is-silent-requires
+is-silent-requires c κs = search needs
+
+-- src/lib.rt:175:13
+long-requires : tie.Need-long-requires
+long-requires c κs = search needs
+
+-- src/lib.rt:181:22
+carried-over-requires : tie.Need-carried-over-requires
+carried-over-requires c κs = search needs
+
+-- src/lib.rt:176:9
+returns-2 : tie.Need-returns-2
+returns-2 c =
+    let a = (c .before .before .before .before .before .before .before) .args in
+    rw (le-leb _ _ (c .before .before .before .before .if1 .left))
+    (silent-plan (a .own) (now (a .map)) (now (a .plan)) (a .carried) (c .before .long .result) (c .carried-over .result) (sym (c .before .before .before .is-silent .ensures) ∙ c .before .before .if2 .taken) (c .before .long .ensures .0) (c .carried-over .ensures))
+
+-- src/lib.rt:184:9
+walk-map-requires : tie.Need-walk-map-requires
+walk-map-requires c κs = search needs
+
+-- src/lib.rt:190:18
+carried-over-requires-2 : tie.Need-carried-over-requires-2
+carried-over-requires-2 c κs = search needs
+
+-- src/lib.rt:160:1
+same-length : tie.Need-same-length
+same-length c = search needs
+
+-- src/lib.rt:160:1
+returns-3 : tie.Need-returns-3
+returns-3 c =
+    let a = (c .before .before .before .before .before .before .before .before .before .before) .args in
+    rw (le-leb _ _ (c .before .before .before .before .before .before .before .if1 .left))
+    (finish (now (a .plan)) _ (c .before .before .before .walk-map .result) (a .carried) (c .carried-over2 .result) (plannedOf (a .own) (now (a .map)) (a .carried)) (c .before .before .before .walk-map .ensures .0) (c .before .before .before .before .before .before .before .if1 .left) (c .before .before .before .walk-map .ensures .1 ∙ from-start (a .own) (now (a .map)) (now (a .plan)) (a .carried)) (c .carried-over2 .ensures))
+
+pub plan-map-by-spec : {M : Type 1} → statement M
+plan-map-by-spec =
+    tie.close
+    (tie.spec
+    returns
+    is-silent-requires
+    long-requires
+    carried-over-requires
+    returns-2
+    walk-map-requires
+    carried-over-requires-2
+    same-length
+    returns-3)
