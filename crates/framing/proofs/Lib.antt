@@ -1,5 +1,6 @@
 pub mod Numbers
 pub mod Steps
+pub mod Lent
 pub mod Layouts
 pub mod Padding
 pub mod Frames
