@@ -5,6 +5,7 @@ ghost use Prim.Native.Nat.{_+_, _≤_};
 ghost use lib.ListN.{length};
 ghost use Rattle.ranges.specs.Ranges.{inRange};
 ghost use Rattle.bwmap.specs.Limits.{planNumbers};
+ghost use Rattle.bwmap.specs.Tables.{Tables};
 ghost use Rattle.bwmap.specs.Plan.{counted, written};
 ghost use Rattle.bwmap.specs.Series.{plannedOf};
 ghost use Rattle.payload.specs.Walk.{memoryBytes};
@@ -97,8 +98,14 @@ fn plan_of(answer: bwmap::Answer) -> Plan
 }
 
 // The plan follows the state in which the frame arrived.
-fn plan_bursts(s: Station, map: &[u8], plan: &mut [u16]) -> Plan
-    requires { ⌜ planNumbers ≤ length (now plan) ⌝ }
+fn plan_bursts(
+    syndromes: &[u16; 2048],
+    flips: &[u16; 4096],
+    s: Station,
+    map: &[u8],
+    plan: &mut [u16],
+) -> Plan
+    requires { ⌜ Tables (now syndromes) (now flips) × (planNumbers ≤ length (now plan)) ⌝ }
     ensures { λ r. ⌜ (r ≡ counted (s .carried) (plannedOf (ownOf s) (now (map .entry)) (s .carried)))
         × (now (plan .exit) ≡ written (plannedOf (ownOf s) (now (map .entry)) (s .carried)) (now (plan .entry))) ⌝ }
 {
@@ -111,18 +118,20 @@ fn plan_bursts(s: Station, map: &[u8], plan: &mut [u16]) -> Plan
         onu: onu,
         allocs: allocs,
     };
-    plan_of(bwmap::plan_map(map, own, s.carried, plan))
+    plan_of(bwmap::plan_map_by(syndromes, flips, map, own, s.carried, plan))
 }
 
 // Only a frame that arrives in O5 has its payload walked.
 fn receive_payload(
+    syndromes: &[u16; 2048],
+    flips: &[u16; 4096],
     s: Station,
     place: usize,
     payload: &[u8],
     memory: &mut [u8],
     deliveries: &mut [u8],
 ) -> Received
-    requires { ⌜ (inRange s ≡ true) × (memoryBytes ≤ length (now memory)) × (length (now payload) + memoryBytes ≤ length (now deliveries)) ⌝ }
+    requires { ⌜ Tables (now syndromes) (now flips) × (inRange s ≡ true) × (memoryBytes ≤ length (now memory)) × (length (now payload) + memoryBytes ≤ length (now deliveries)) ⌝ }
     ensures { λ r. ⌜ record { receiver = record { ports = r .ports; bytes = r .bytes; memory = now (memory .exit); deliveries = now (deliveries .exit) }; delineation = r .delineation } ≡ walkedFrom s place (now (payload .entry)) (now (memory .entry)) (now (deliveries .entry)) ⌝ }
 {
     let ports = s.ports;
@@ -136,7 +145,9 @@ fn receive_payload(
     }
     let link = s.link;
     let onu = link.onu;
-    payload::receive(
+    payload::receive_by(
+        syndromes,
+        flips,
         ports,
         onu.management_port(),
         memory,
@@ -148,6 +159,8 @@ fn receive_payload(
 
 // The header was read and lies within the frame: (a) plan, replies and deliveries, (b) the messages, (c) the frame's end.
 fn handle(
+    syndromes: &[u16; 2048],
+    flips: &[u16; 4096],
     s: Station,
     h: Hlend,
     memory: &mut [u8],
@@ -157,14 +170,20 @@ fn handle(
     replies: &mut [u8],
     deliveries: &mut [u8],
 ) -> Outcome
-    requires { ⌜ (inRange s ≡ true) × (headerEnd h ≤ length (now frame)) × (buffersFit (length (now frame)) (record { memory = now memory; plan = now plan; replies = now replies; deliveries = now deliveries }) ≡ true) ⌝ }
+    requires { ⌜ Tables (now syndromes) (now flips) × (inRange s ≡ true) × (headerEnd h ≤ length (now frame)) × (buffersFit (length (now frame)) (record { memory = now memory; plan = now plan; replies = now replies; deliveries = now deliveries }) ≡ true) ⌝ }
     ensures { λ r. ⌜ record { outcome = r; lent = record { memory = now (memory .exit); plan = now (plan .exit); replies = now (replies .exit); deliveries = now (deliveries .exit) } } ≡ handled s h (now (frame .entry)) delay (record { memory = now (memory .entry); plan = now (plan .entry); replies = now (replies .entry); deliveries = now (deliveries .entry) }) ⌝ }
 {
     let map = partitions::map_end(h);
     let end = partitions::header_end(h);
-    let p = plan_bursts(s, &frame[partitions::HLEND_OCTETS..map], plan);
+    let p = plan_bursts(
+        syndromes,
+        flips,
+        s,
+        &frame[partitions::HLEND_OCTETS..map],
+        plan,
+    );
     let sent = replies::reply_all(s, p.messages, delay, replies);
-    let r = receive_payload(s, end, &frame[end..], memory, deliveries);
+    let r = receive_payload(syndromes, flips, s, end, &frame[end..], memory, deliveries);
     let ports = r.ports;
     let found = sent.with_ports(ports).with_carried(p.carried);
     let acted = activation::receive_all(found, &frame[map..end]);
@@ -208,12 +227,26 @@ pub fn frame(
     ) {
         return without(Answer::BufferTooShort, s);
     }
-    match framing::hlend::read_hlend(frame) {
+    // A table that is named is copied: the header, the map and the payload are read by the same two.
+    let syndromes = hec::syndromes::table();
+    let flips = hec::flips::table();
+    match framing::hlend::read_hlend_by(&syndromes, &flips, frame) {
         HlendRead::Fields(h) => {
             if frame.len() < partitions::header_end(h) {
                 return without(Answer::HeaderTooLong, timing::unread_time(s));
             }
-            handle(s, h, memory, frame, delay, plan, replies, deliveries)
+            handle(
+                &syndromes,
+                &flips,
+                s,
+                h,
+                memory,
+                frame,
+                delay,
+                plan,
+                replies,
+                deliveries,
+            )
         }
         HlendRead::Unreadable => without(Answer::HlendUnreadable, timing::unread_time(s)),
         HlendRead::Short => without(Answer::HlendUnreadable, timing::unread_time(s)),

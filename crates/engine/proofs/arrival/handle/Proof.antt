@@ -31,111 +31,111 @@ abbrev buffers : tie.Start → Lent
 buffers c = record { memory = now (c .args .memory); plan = now (c .args .plan); replies = now (c .args .replies); deliveries = now (c .args .deliveries) }
 
 fitting : (c : tie.Start) → Room (length (now (c .args .frame))) (buffers c)
-fitting c = room (length (now (c .args .frame))) (buffers c) (c .pre .2)
+fitting c = room (length (now (c .args .frame))) (buffers c) (c .pre .3)
 
--- src/arrival.rt:157:9
+-- src/arrival.rt:178:9
 map-end-requires : tie.Need-map-end-requires
 map-end-requires c κs = search needs
 
--- src/arrival.rt:158:9
+-- src/arrival.rt:179:9
 header-end-requires : tie.Need-header-end-requires
 header-end-requires c κs = search needs
 
--- src/arrival.rt:159:28
+-- src/arrival.rt:184:9
 sub-plan-bursts : tie.Need-sub-plan-bursts
-sub-plan-bursts c = omega (arith, c .before .map-end .ensures)
+sub-plan-bursts c = search needs
 
--- src/arrival.rt:159:28
+-- src/arrival.rt:184:9
 part-plan-bursts-start : tie.Need-part-plan-bursts-start
-part-plan-bursts-start c = omega (arith, c .before .map-end .ensures)
+part-plan-bursts-start c = search needs
 
--- src/arrival.rt:159:28
+-- src/arrival.rt:184:9
 part-plan-bursts-end : tie.Need-part-plan-bursts-end
-part-plan-bursts-end c = omega (arith, c .before .map-end .ensures, c .before .before .before .before .before .before .before .pre .1)
+part-plan-bursts-end c = search needs
 
--- src/arrival.rt:159:9
+-- src/arrival.rt:180:9
 plan-bursts-requires : tie.Need-plan-bursts-requires
-plan-bursts-requires c κs = fitting (c .before .before .before .before .before .before .before .before .before) .plan
+plan-bursts-requires c κs = ((c .before .before .before .before .before .before .before .before .before) .pre .0, fitting (c .before .before .before .before .before .before .before .before .before) .plan)
 
--- src/arrival.rt:160:9
+-- src/arrival.rt:187:9
 reply-all-requires : tie.Need-reply-all-requires
 reply-all-requires c κs = search needs
 
--- src/arrival.rt:161:37
+-- src/arrival.rt:193:9
 sub-receive-payload : tie.Need-sub-receive-payload
-sub-receive-payload c = omega (arith, c .before .before .before .before .before .before .before .before .before .header-end .ensures, c .before .before .before .before .before .before .before .before .before .before .before .before .before .before .before .before .pre .1)
+sub-receive-payload c = omega (arith, c .before .before .before .before .before .before .before .before .before .header-end .ensures, (c .before .before .before .before .before .before .before .before .before .before .before .before .before .before .before .before) .pre .2)
 
--- src/arrival.rt:161:37
+-- src/arrival.rt:193:9
 part-receive-payload-start : tie.Need-part-receive-payload-start
-part-receive-payload-start c = omega (arith, c .before .before .before .before .before .before .before .before .before .header-end .ensures, c .before .before .before .before .before .before .before .before .before .before .before .before .before .before .before .before .pre .1)
+part-receive-payload-start c = omega (arith, c .before .before .before .before .before .before .before .before .before .header-end .ensures, (c .before .before .before .before .before .before .before .before .before .before .before .before .before .before .before .before) .pre .2)
 
--- src/arrival.rt:161:37
+-- src/arrival.rt:193:9
 part-receive-payload-end : tie.Need-part-receive-payload-end
 part-receive-payload-end c = search needs
 
--- src/arrival.rt:161:9
+-- src/arrival.rt:188:9
 receive-payload-requires : tie.Need-receive-payload-requires
 receive-payload-requires c κs =
-    let f = now (c .before .before .before .before .before .before .before .before .before .before .before .before .before .before .before .before .before .before .before .args .frame) in
+    let f = now ((c .before .before .before .before .before .before .before .before .before .before .before .before .before .before .before .before .before .before .before) .args .frame) in
     let e = c .before .before .before .before .before .before .before .before .before .before .before .before .header-end .result in
-    (c .before .before .before .before .before .before .before .before .before .before .before .before .before .before .before .before .before .before .before .pre .0, fitting (c .before .before .before .before .before .before .before .before .before .before .before .before .before .before .before .before .before .before .before) .memory, omega (arith, fitting (c .before .before .before .before .before .before .before .before .before .before .before .before .before .before .before .before .before .before .before) .deliveries, length-take (length f - e) (drop e f), length-drop e f))
+    ((c .before .before .before .before .before .before .before .before .before .before .before .before .before .before .before .before .before .before .before) .pre .0, (c .before .before .before .before .before .before .before .before .before .before .before .before .before .before .before .before .before .before .before) .pre .1, fitting (c .before .before .before .before .before .before .before .before .before .before .before .before .before .before .before .before .before .before .before) .memory, omega (arith, fitting (c .before .before .before .before .before .before .before .before .before .before .before .before .before .before .before .before .before .before .before) .deliveries, length-take (length f - e) (drop e f), length-drop e f))
 
--- src/arrival.rt:163:17
+-- src/arrival.rt:198:17
 with-ports-requires : tie.Need-with-ports-requires
 with-ports-requires c κs = search needs
 
--- src/arrival.rt:163:9
+-- src/arrival.rt:198:9
 with-carried-requires : tie.Need-with-carried-requires
 with-carried-requires c κs = search needs
 
--- src/arrival.rt:164:48
+-- src/arrival.rt:199:48
 sub-receive-all : tie.Need-sub-receive-all
 sub-receive-all c = omega (arith, c .before .before .before .before .before .before .before .before .before .before .before .before .before .before .before .before .before .before .before .before .before .map-end .ensures, c .before .before .before .before .before .before .before .before .before .before .before .before .before .before .before .before .before .before .before .before .header-end .ensures)
 
--- src/arrival.rt:164:48
+-- src/arrival.rt:199:48
 part-receive-all-start : tie.Need-part-receive-all-start
 part-receive-all-start c = omega (arith, c .before .before .before .before .before .before .before .before .before .before .before .before .before .before .before .before .before .before .before .before .before .map-end .ensures, c .before .before .before .before .before .before .before .before .before .before .before .before .before .before .before .before .before .before .before .before .header-end .ensures)
 
--- src/arrival.rt:164:48
+-- src/arrival.rt:199:48
 part-receive-all-end : tie.Need-part-receive-all-end
-part-receive-all-end c = omega (arith, c .before .before .before .before .before .before .before .before .before .before .before .before .before .before .before .before .before .before .before .before .before .map-end .ensures, c .before .before .before .before .before .before .before .before .before .before .before .before .before .before .before .before .before .before .before .before .header-end .ensures, c .before .before .before .before .before .before .before .before .before .before .before .before .before .before .before .before .before .before .before .before .before .before .before .before .before .before .before .pre .1)
+part-receive-all-end c = omega (arith, c .before .before .before .before .before .before .before .before .before .before .before .before .before .before .before .before .before .before .before .before .before .map-end .ensures, c .before .before .before .before .before .before .before .before .before .before .before .before .before .before .before .before .before .before .before .before .header-end .ensures, (c .before .before .before .before .before .before .before .before .before .before .before .before .before .before .before .before .before .before .before .before .before .before .before .before .before .before .before) .pre .2)
 
--- src/arrival.rt:164:9
+-- src/arrival.rt:199:9
 receive-all-requires : tie.Need-receive-all-requires
 receive-all-requires c κs = search needs
 
--- src/arrival.rt:166:42
+-- src/arrival.rt:201:42
 is-ranging-requires : tie.Need-is-ranging-requires
 is-ranging-requires c κs = search needs
 
--- src/arrival.rt:166:9
+-- src/arrival.rt:201:9
 frame-end-requires : tie.Need-frame-end-requires
 frame-end-requires c κs = search needs
 
--- src/arrival.rt:169:17
+-- src/arrival.rt:204:17
 answer-to-requires : tie.Need-answer-to-requires
 answer-to-requires c κs = search needs
 
--- src/arrival.rt:144:1
+-- src/arrival.rt:163:1
 same-length : tie.Need-same-length
 same-length c = c .before .before .before .before .before .before .before .before .before .before .before .memory .given
 
--- src/arrival.rt:144:1
+-- src/arrival.rt:163:1
 same-length-2 : tie.Need-same-length-2
 same-length-2 c = c .before .before .before .before .before .before .before .before .before .before .before .before .before .before .before .before .before .before .before .before .before .plan .given
 
--- src/arrival.rt:144:1
+-- src/arrival.rt:163:1
 same-length-3 : tie.Need-same-length-3
 same-length-3 c = c .before .before .before .before .before .before .before .before .before .before .before .before .before .before .before .before .before .replies .given
 
--- src/arrival.rt:144:1
+-- src/arrival.rt:163:1
 same-length-4 : tie.Need-same-length-4
 same-length-4 c = search needs
 
--- src/arrival.rt:144:1
+-- src/arrival.rt:163:1
 returns : tie.Need-returns
 returns c =
-    let a = c .before .before .before .before .before .before .before .before .before .before .before .before .before .before .before .before .before .before .before .before .before .before .before .before .before .before .before .before .before .before .before .before .args in
+    let a = (c .before .before .before .before .before .before .before .before .before .before .before .before .before .before .before .before .before .before .before .before .before .before .before .before .before .before .before .before .before .before .before .before) .args in
     let f = now (a .frame) in
     let m = c .before .before .before .before .before .before .before .before .before .before .before .before .before .before .before .before .before .before .before .before .before .before .before .before .before .before .map-end .result in
     let e = c .before .before .before .before .before .before .before .before .before .before .before .before .before .before .before .before .before .before .before .before .before .before .before .before .before .header-end .result in

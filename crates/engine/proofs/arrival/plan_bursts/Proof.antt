@@ -7,14 +7,14 @@ use Rattle.engine.proofs.arrival.plan_bursts.Statement.{statement}
 use Rattle.engine.proofs.arrival.plan_bursts.Tie as tie
 use Rattle.engine.proofs.arrival.plan_bursts.Reads as reads
 use Rattle.engine.proofs.arrival.plan_bursts.Lts as lts
-use Rattle.bwmap.proofs.plan_map.Reads as plan-map-reads
+use Rattle.bwmap.proofs.plan_map_by.Reads as plan-map-by-reads
 use Rattle.engine.proofs.arrival.plan_of.Reads as plan-of-reads
 
--- src/arrival.rt:115:13
-plan-map-requires : tie.Need-plan-map-requires
-plan-map-requires c κs = search needs
+-- src/arrival.rt:121:13
+plan-map-by-requires : tie.Need-plan-map-by-requires
+plan-map-by-requires c κs = search needs
 
--- src/arrival.rt:115:5
+-- src/arrival.rt:121:5
 plan-of-requires : tie.Need-plan-of-requires
 plan-of-requires c κs = search needs
 
@@ -25,9 +25,9 @@ same-length c = search needs
 -- src/arrival.rt:101:1
 returns : tie.Need-returns
 returns c =
-    let a = c .before .before .before .before .before .before .before .before .before .before .args in
-    let p = planned-fully (ownOf (a .s)) (now (a .map)) (a .s .carried) (now (a .plan)) (c .before .before .before .plan-map .result) _ (c .before .before .before .before .before .before .before .before .before .before .pre) (c .before .before .before .plan-map .ensures) in
+    let a = (c .before .before .before .before .before .before .before .before .before .before) .args in
+    let p = planned-fully (ownOf (a .s)) (now (a .map)) (a .s .carried) (now (a .plan)) (c .before .before .before .plan-map-by .result) _ ((c .before .before .before .before .before .before .before .before .before .before) .pre .1) (c .before .before .before .plan-map-by .ensures) in
     (c .plan-of .ensures ∙ p .0, p .1)
 
 pub plan-bursts-spec : {M : Type 1} → statement M
-plan-bursts-spec = tie.close (tie.spec plan-map-requires plan-of-requires same-length returns)
+plan-bursts-spec = tie.close (tie.spec plan-map-by-requires plan-of-requires same-length returns)
