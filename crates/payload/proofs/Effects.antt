@@ -54,6 +54,11 @@ slot-below p own port e = go (assignablePort port) (samePort port own)
     go false true = omega arith
     go false false = tt
 
+-- what a fragment does at a slot is no matter of the added ports
+pub ids-aside : (p : Ports) (last : Bool) (n : ℕ) (q : Place) → atPlace (record { ids = []; lengths = p .lengths; waiting = p .waiting }) last n q ≡ atPlace p last n q
+ids-aside p last n (At i) = refl
+ids-aside p last n Nowhere = refl
+
 -- what an effect says of its slot is so
 within-slot : (p : Ports) (last : Bool) (n i : ℕ) (waits : Bool) → i < slots → Within p (atSlot i waits (getD (p .lengths) i 0) last n) n
 within-slot p last n i true h = h

@@ -2,10 +2,11 @@
 -- Assumes nothing.
 use mathlib.Core.Path.{_≡_, refl, sym, ap, _∙_}
 use Prim.Native.Nat.{ℕ, zero, suc, _+_, _-_, _≤_, _<_}
+use native.Mathlib.Nat.{le-refl, add-zero}
 use native.Mathlib.Omega.{arith}
 use mathlib.Core.List.{List, [], _∷_, _++_, append-assoc}
 use lib.ListN.{length, take, drop, getD, set, length-append, length-take, length-drop, take-append-drop}
-use lib.Seq.{take-at, drop-at, take-add, take-append-le, drop-append-add, drop-append-le, drop-drop, length-take-le}
+use lib.Seq.{take-all, drop-cons, take-at, drop-at, take-add, take-append-le, drop-append-add, drop-append-le, drop-drop, length-take-le}
 use Rattle.payload.specs.Memory.{put}
 
 -- the rest of a list, in two pieces
@@ -89,3 +90,35 @@ put-onto d f n s h =
     ap (λ x. take (n + length s) (drop f x)) e
     ∙ ap (take (n + length s)) (drop-at (take f d) (q ++ s ++ R) f l)
     ∙ take-at (q ++ s) R (n + length s) (length-append q s ∙ ap (λ m. m + length s) lq)
+
+-- nothing put changes nothing
+pub put-none : (d : List ℕ) (a : ℕ) → put d a [] ≡ d
+unfolding put
+put-none d a = ap (λ (k : ℕ). take a d ++ drop k d) (add-zero a) ∙ take-append-drop a d
+
+-- ---- a list laid into another piece by piece: i elements so far, then eight more, or the rest
+module _ (d s : List ℕ) (a i : ℕ) (t : List ℕ) (so-far : t ≡ put d a (take i s)) (h : i ≤ length s) (g : a ≤ length d) where
+  put-more : (u o v : List ℕ) → u ≡ put t (a + i) o → take i s ++ o ≡ v → u ≡ put d a v
+  put-more u o v e j =
+      e ∙ ap (λ (x : List ℕ). put x (a + i) o) so-far
+      ∙ put-put d a (take i s) o (a + i) (ap (λ (k : ℕ). a + k) (sym (length-take-le i s h))) g
+      ∙ ap (put d a) j
+
+  part : take (length s - i) (drop i s) ≡ drop i s
+  part = take-all (length s - i) (drop i s) (simp length-drop (le-refl _))
+
+  pub put-eight : (u o : List ℕ) → u ≡ put t (a + i) o → o ≡ take 8 (take (length s - i) (drop i s)) → u ≡ put d a (take (i + 8) s)
+  put-eight u o e p =
+      put-more u o (take (i + 8) s) e (ap (λ (x : List ℕ). take i s ++ x) (p ∙ ap (take 8) part) ∙ sym (take-add i 8 s))
+
+  pub put-rest : (u : List ℕ) → u ≡ put t (a + i) (take (length s - i) (drop i s)) → u ≡ put d a s
+  put-rest u e = put-more u (take (length s - i) (drop i s)) s e (ap (λ (x : List ℕ). take i s ++ x) part ∙ take-append-drop i s)
+
+-- n elements from index j, one by one
+abbrev each : List ℕ → ℕ → ℕ → List ℕ
+each s j zero = []
+each s j (suc n) = getD s j 0 ∷ each s (suc j) n
+
+pub each-take : (s : List ℕ) (j n : ℕ) → j + n ≤ length s → each s j n ≡ take n (drop j s)
+each-take s j zero h = refl
+each-take s j (suc n) h = ap (λ (x : List ℕ). getD s j 0 ∷ x) (each-take s (suc j) n (omega arith)) ∙ ap (take (suc n)) (sym (drop-cons s j 0 (omega arith)))

@@ -17,6 +17,7 @@ use Rattle.framing.specs.Octets.{value}
 use Rattle.framing.specs.Layouts.{xgemOf, payloadSize}
 use Rattle.framing.specs.Reads.{Found, fields, unreadable, short, taken, readAs, readXgem}
 use Rattle.framing.proofs.Numbers.{Bytes, value-lt}
+use Rattle.framing.proofs.Steps.{read-short, read-found}
 use Rattle.payload.specs.declared.frames.Next.{Next}
 use Rattle.payload.specs.declared.frames.Next.the-variants.{Done, Lost, Frame}
 use Rattle.payload.specs.Frames.{ahead, nextOf}
@@ -37,6 +38,13 @@ module _ (syndromes flips : List ℕ) (a : Syndromes syndromes) (b : Flips flips
           → cond t (taken xgemOf (readingBy syndromes flips 8 (value (take 8 s)))) short ≡ cond t (taken xgemOf (reading 64 (value (take 8 s)))) short
       go true e = ap (taken xgemOf) (lent64 syndromes flips a b (value (take 8 s)) (fits (leb-true 8 (length s) e)))
       go false e = refl
+
+  -- by the word that stands ahead, where there is one
+  pub found-ahead : (w : ℕ) (r : Reading) (x : Found XgemHeader) → 8 ≤ length s → w ≡ cond (leb 8 (length s)) (value (take 8 s)) 0
+      → r ≡ readingBy syndromes flips 8 w → x ≡ taken xgemOf r → x ≡ readXgem s
+  found-ahead w r x h e q t =
+      read-found (readingBy syndromes flips 8) 8 xgemOf s w r x h (e ∙ ap (λ (b : Bool). cond b (value (take 8 s)) 0) (le-leb 8 (length s) h)) q t
+      ∙ lent-xgem
 
 -- a header's PLI has fourteen bits
 abbrev Narrow : Found XgemHeader → Type 0
@@ -59,6 +67,9 @@ pli-lt s x e = rw (sym e) at (narrow s)
 module _ (s : List ℕ) where
   pub none-ahead : short ≡ readXgem s → Done ≡ nextOf s
   none-ahead e = ap (λ (f : Found XgemHeader). ahead f (length s)) e
+
+  pub done-ahead : length s < 8 → Done ≡ nextOf s
+  done-ahead h = none-ahead (read-short (reading 64) 8 xgemOf s h)
 
   pub lost-ahead : unreadable ≡ readXgem s → Lost ≡ nextOf s
   lost-ahead e = ap (λ (f : Found XgemHeader). ahead f (length s)) e

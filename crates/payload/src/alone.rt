@@ -1,10 +1,15 @@
 // An unfragmented SDU as its own stretch of the payload. The search decides as the walk does, and touches no memory.
 ghost use mathlib.Core.Path.{_≡_};
+ghost use lib.ListN.{length};
+ghost use Rattle.hec.specs.Lent.{Syndromes, Flips};
+ghost use Rattle.payload.specs.Frames.{nextOf};
+ghost use Rattle.payload.specs.Inside.{Inside};
 ghost use Rattle.payload.specs.Stretch.{noExtent, sought, settled, stretchOf, cutOut};
 use super::fragments;
 use super::fragments::Effect;
-use super::frames;
 use super::frames::Next;
+use framing::xgem;
+use framing::xgem::XgemRead;
 use ids::PortId;
 use station::slots::Ports;
 
@@ -78,6 +83,26 @@ fn settle(seek: Seek, lost: bool) -> StretchPlace
     }
 }
 
+// What `frames::next_frame` finds. The search has a function of its own for it, as for a fragment's effect: with a second
+// caller those of the walk were no longer merged into its loop.
+fn next_ahead(syndromes: &[u16; 2048], flips: &[u16; 4096], left: &[u8]) -> Next
+    requires { ⌜ Syndromes (now syndromes) × Flips (now flips) ⌝ }
+    ensures { λ r. ⌜ (r ≡ nextOf (now (left .entry))) × (Inside r (length (now (left .entry)))) ⌝ }
+{
+    let read = xgem::read_xgem_by(syndromes, flips, left);
+    match read {
+        XgemRead::Short => Next::Done,
+        XgemRead::Unreadable => Next::Lost,
+        XgemRead::Fields(x) => {
+            if left.len() < 8 + xgem::payload_size(x.pli) {
+                Next::Lost
+            } else {
+                Next::Frame(x)
+            }
+        }
+    }
+}
+
 // The stretch of delivery k, counted from 0, by its place in the payload: the empty one where the SDU came in several
 // fragments or there is no such delivery.
 pub fn stretch_place(ports: Ports, own: PortId, payload: &[u8], k: usize) -> StretchPlace
@@ -89,7 +114,7 @@ pub fn stretch_place(ports: Ports, own: PortId, payload: &[u8], k: usize) -> Str
     let mut seek = Seek::Ahead(k);
     let mut at: usize = 0;
     loop {
-        let next = frames::next_frame(&syndromes, &flips, &payload[at..]);
+        let next = next_ahead(&syndromes, &flips, &payload[at..]);
         match next {
             Next::Done => {
                 return settle(seek, false);
@@ -104,7 +129,7 @@ pub fn stretch_place(ports: Ports, own: PortId, payload: &[u8], k: usize) -> Str
                 let effect = fragments::effect_of(held, own, port, x.last, n);
                 seek = seek_on(seek, effect, body, n);
                 held = fragments::moved(held, effect, n);
-                at = body + framing::xgem::payload_size(x.pli);
+                at = body + xgem::payload_size(x.pli);
             }
         }
     }

@@ -1,11 +1,12 @@
 // What a fragment does to the port that it is for. The decision is apart from the effect: it needs the ports alone.
 ghost use mathlib.Core.Path.{_≡_};
 ghost use mathlib.Core.Bool.{cond};
+ghost use mathlib.Core.List.{[]};
 ghost use Prim.Native.Nat.{_+_, _≤_, _<_};
 ghost use Rattle.ids.specs.Ids.{samePort};
 ghost use Rattle.station.specs.Limits.{slots, addedPorts};
 ghost use Rattle.station.specs.Lists.{Below, placeFrom};
-ghost use Rattle.payload.specs.Fragments.{slotIn, atSlot, effectOf, after};
+ghost use Rattle.payload.specs.Fragments.{behind, slotIn, slotOf, atSlot, atPlace, effectOf, after};
 ghost use Rattle.payload.specs.Marks.{marks};
 ghost use Rattle.payload.specs.Bounds.{Within};
 use ids::PortId;
@@ -75,21 +76,33 @@ fn place_in(ids: [PortId; 16], id: PortId) -> Place
     first_place(ids, id)
 }
 
+fn behind(place: Place) -> Place
+    requires { ⌜ Below place addedPorts ⌝ }
+    ensures { λ r. ⌜ (r ≡ behind place) × (Below r slots) ⌝ }
+{
+    match place {
+        Place::At(i) => Place::At(i + 1),
+        Place::Nowhere => Place::Nowhere,
+    }
+}
+
+fn management(own: PortId, port: PortId) -> Place
+    ensures { λ r. ⌜ (r ≡ cond (samePort port own) (Place.At 0) Place.Nowhere) × (Below r slots) ⌝ }
+{
+    if port.is(own) {
+        Place::At(0)
+    } else {
+        Place::Nowhere
+    }
+}
+
 fn slot_in(ids: [PortId; 16], own: PortId, port: PortId) -> Place
     ensures { λ r. ⌜ (r ≡ slotIn ids own port) × (Below r slots) ⌝ }
 {
     if port.is_assignable() {
-        let place = place_in(ids, port);
-        match place {
-            Place::At(i) => Place::At(i + 1),
-            Place::Nowhere => Place::Nowhere,
-        }
+        behind(place_in(ids, port))
     } else {
-        if port.is(own) {
-            Place::At(0)
-        } else {
-            Place::Nowhere
-        }
+        management(own, port)
     }
 }
 
@@ -116,6 +129,16 @@ fn wide(x: u16) -> usize
     x as usize
 }
 
+fn at_place(lengths: &[u16; 17], waiting: &[bool; 17], slot: Place, last: bool, n: usize) -> Effect
+    requires { ⌜ (Below slot slots) × (n ≤ 65535) ⌝ }
+    ensures { λ r. ⌜ r ≡ atPlace (record { ids = []; lengths = now (lengths .entry); waiting = now (waiting .entry) }) last n slot ⌝ }
+{
+    match slot {
+        Place::At(i) => at_slot(i, waiting[i], wide(lengths[i]), last, n),
+        Place::Nowhere => Effect::Nothing,
+    }
+}
+
 // The ports by their parts, which the walk keeps apart: what is changed by single elements is never copied whole.
 pub(crate) fn effect_in(
     ids: [PortId; 16],
@@ -133,20 +156,32 @@ pub(crate) fn effect_in(
         return Effect::Nothing;
     }
     let slot = slot_in(ids, own, port);
-    match slot {
-        Place::At(i) => at_slot(i, waiting[i], wide(lengths[i]), last, n),
-        Place::Nowhere => Effect::Nothing,
+    at_place(lengths, waiting, slot, last, n)
+}
+
+fn slot_of(ports: Ports, own: PortId, port: PortId) -> Place
+    ensures { λ r. ⌜ (r ≡ slotOf ports own port) × (Below r slots) ⌝ }
+{
+    if port.is_assignable() {
+        behind(ports.place(port))
+    } else {
+        management(own, port)
     }
 }
 
+// For the search for a stretch, which is not to be a second caller of `effect_in`.
 pub(crate) fn effect_of(ports: Ports, own: PortId, port: PortId, last: bool, n: usize) -> Effect
     requires { ⌜ n ≤ 65535 ⌝ }
     ensures { λ r. ⌜ r ≡ effectOf ports own port last n ⌝ }
 {
-    let ids = ports.ids;
-    let lengths = ports.lengths;
-    let waiting = ports.waiting;
-    effect_in(ids, &lengths, &waiting, own, port, last, n)
+    if n != 0 {
+        let slot = slot_of(ports, own, port);
+        let lengths = ports.lengths;
+        let waiting = ports.waiting;
+        at_place(&lengths, &waiting, slot, last, n)
+    } else {
+        Effect::Nothing
+    }
 }
 
 pub(crate) fn moved(ports: Ports, effect: Effect, n: usize) -> Ports

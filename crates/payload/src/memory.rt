@@ -2,7 +2,7 @@
 ghost use mathlib.Core.Path.{_≡_};
 ghost use mathlib.Core.List.{_++_};
 ghost use Prim.Native.Nat.{ℕ, _+_, _≤_};
-ghost use lib.ListN.{length};
+ghost use lib.ListN.{length, take};
 ghost use Rattle.payload.specs.Memory.{put, delivery, taken};
 ghost use Rattle.payload.specs.Bounds.{Ready};
 use super::fragments;
@@ -16,6 +16,39 @@ fn lay_at(target: &mut [u8], at: usize, s: &[u8])
     ensures { λ _. ⌜ now (target .exit) ≡ put (now (target .entry)) at (now (s .entry)) ⌝ }
 {
     bytes::copy(s, &mut target[at..]);
+}
+
+fn eight(s: &[u8]) -> [u8; 8]
+    requires { ⌜ 8 ≤ length (now s) ⌝ }
+    ensures { λ r. ⌜ r ≡ take 8 (now (s .entry)) ⌝ }
+{
+    [s[0], s[1], s[2], s[3], s[4], s[5], s[6], s[7]]
+}
+
+// Eight octets are held before they are written: whether the two slices overlap, which a plain copy asks first, is then no
+// question.
+fn lay_short(target: &mut [u8], at: usize, s: &[u8])
+    requires { ⌜ at + length (now s) ≤ length (now target) ⌝ }
+    ensures { λ _. ⌜ now (target .exit) ≡ put (now (target .entry)) at (now (s .entry)) ⌝ }
+{
+    let mut i: usize = 0;
+    while 8 <= s.len() - i {
+        let octets = eight(&s[i..]);
+        lay_at(target, at + i, &octets);
+        i += 8;
+    }
+    lay_at(target, at + i, &s[i..]);
+}
+
+fn lay_body(target: &mut [u8], at: usize, s: &[u8])
+    requires { ⌜ at + length (now s) ≤ length (now target) ⌝ }
+    ensures { λ _. ⌜ now (target .exit) ≡ put (now (target .entry)) at (now (s .entry)) ⌝ }
+{
+    if s.len() < 32 {
+        lay_short(target, at, s);
+    } else {
+        lay_at(target, at, s);
+    }
 }
 
 // A delivery at a place: Port-ID, length, the bytes of the partial and those of the last fragment.
@@ -35,7 +68,7 @@ fn deliver(target: &mut [u8], at: usize, port: PortId, part: &[u8], body: &[u8])
     let b = at + 4;
     lay_at(target, b, part);
     let c = b + part.len();
-    lay_at(target, c, body);
+    lay_body(target, c, body);
 }
 
 // The ports come by their parts, of which single elements change; what is returned is how many bytes of deliveries there

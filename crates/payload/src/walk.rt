@@ -9,6 +9,7 @@ ghost use Rattle.payload.specs.Walk.{walkOf, allWithin, receiveOf};
 use super::frames;
 use super::frames::Next;
 use super::memory;
+use framing::xgem;
 use ids::PortId;
 use station::limits::SLOT_BYTES;
 use station::slots::Ports;
@@ -85,6 +86,8 @@ fn together(ids: [PortId; 16], lengths: [u16; 17], waiting: [bool; 17]) -> Ports
 }
 
 fn walk_frames(
+    syndromes: &[u16; 2048],
+    flips: &[u16; 4096],
     ports: Ports,
     own: PortId,
     memory: &mut [u8],
@@ -92,18 +95,17 @@ fn walk_frames(
     place: usize,
     payload: &[u8],
 ) -> Received
+    requires { ⌜ Syndromes (now syndromes) × Flips (now flips) ⌝ }
     requires { ⌜ Ready (record { ports = ports; bytes = 0; memory = now memory; deliveries = now deliveries }) (length (now payload)) ⌝ }
     ensures { λ r. ⌜ record { receiver = record { ports = r .ports; bytes = r .bytes; memory = now (memory .exit); deliveries = now (deliveries .exit) }; delineation = r .delineation } ≡ walkOf own (record { ports = ports; bytes = 0; memory = now (memory .entry); deliveries = now (deliveries .entry) }) place (now (payload .entry)) ⌝ }
 {
-    let syndromes = hec::syndromes::table();
-    let flips = hec::flips::table();
     let ids = ports.ids;
     let mut lengths = ports.lengths;
     let mut waiting = ports.waiting;
     let mut bytes: usize = 0;
     let mut at: usize = 0;
     loop {
-        let next = frames::next_frame(&syndromes, &flips, &payload[at..]);
+        let next = frames::next_frame(syndromes, flips, &payload[at..]);
         match next {
             Next::Done => {
                 return kept(together(ids, lengths, waiting), bytes);
@@ -113,6 +115,7 @@ fn walk_frames(
             }
             Next::Frame(x) => {
                 let body = at + 8;
+                let size = xgem::payload_size(x.pli);
                 let end = body + x.pli as usize;
                 let port = x.port;
                 bytes = memory::take_frame(
@@ -127,14 +130,17 @@ fn walk_frames(
                     x.last,
                     &payload[body..end],
                 );
-                at = body + framing::xgem::payload_size(x.pli);
+                at = body + size;
             }
         }
     }
 }
 
-// The payload of a frame in O5, where `own` is the management port and `place` is where the payload begins in the frame.
-pub fn receive(
+// The payload of a frame in O5, where `own` is the management port and `place` is where the payload begins in the frame, by
+// lent tables: whoever has named them for other headers lends them on.
+pub fn receive_by(
+    syndromes: &[u16; 2048],
+    flips: &[u16; 4096],
     ports: Ports,
     own: PortId,
     memory: &mut [u8],
@@ -142,6 +148,7 @@ pub fn receive(
     place: usize,
     payload: &[u8],
 ) -> Received
+    requires { ⌜ Syndromes (now syndromes) × Flips (now flips) ⌝ }
     ensures { λ r. ⌜ record { receiver = record { ports = r .ports; bytes = r .bytes; memory = now (memory .exit); deliveries = now (deliveries .exit) }; delineation = r .delineation } ≡ receiveOf ports own (now (memory .entry)) (now (deliveries .entry)) place (now (payload .entry)) ⌝ }
 {
     let lengths = ports.lengths;
@@ -157,5 +164,39 @@ pub fn receive(
     if deliveries.len() - MEMORY_BYTES < payload.len() {
         return unfit(ports);
     }
-    walk_frames(ports, own, memory, deliveries, place, payload)
+    walk_frames(
+        syndromes,
+        flips,
+        ports,
+        own,
+        memory,
+        deliveries,
+        place,
+        payload,
+    )
+}
+
+// The same by tables that are named here.
+pub fn receive(
+    ports: Ports,
+    own: PortId,
+    memory: &mut [u8],
+    deliveries: &mut [u8],
+    place: usize,
+    payload: &[u8],
+) -> Received
+    ensures { λ r. ⌜ record { receiver = record { ports = r .ports; bytes = r .bytes; memory = now (memory .exit); deliveries = now (deliveries .exit) }; delineation = r .delineation } ≡ receiveOf ports own (now (memory .entry)) (now (deliveries .entry)) place (now (payload .entry)) ⌝ }
+{
+    let syndromes = hec::syndromes::table();
+    let flips = hec::flips::table();
+    receive_by(
+        &syndromes,
+        &flips,
+        ports,
+        own,
+        memory,
+        deliveries,
+        place,
+        payload,
+    )
 }

@@ -34,8 +34,8 @@ ids : (c : tie.Start Inv-loop μ-loop) → length (c .args .ports .ids) ≡ adde
 ids c = simp length-map at (c .good .0 .1 .1 .0 .1 .0 .1)
 
 -- what the code finds next is what the parse finds
-next : (c : tie.After-next-frame Inv-loop μ-loop) → c .next-frame .result ≡ nextOf (drop (c .before .before .before .before .loop .at) (now (c .before .before .before .before .before .before .before .before .args .payload)))
-next c = c .next-frame .ensures .0 ∙ ap nextOf (rest-part (now (c .before .before .before .before .before .before .before .before .args .payload)) (c .before .before .before .before .loop .at))
+next : (c : tie.After-next-ahead Inv-loop μ-loop) → c .next-ahead .result ≡ nextOf (drop (c .before .before .before .before .loop .at) (now (c .before .before .before .before .before .before .before .before .args .payload)))
+next c = c .next-ahead .ensures .0 ∙ ap nextOf (rest-part (now (c .before .before .before .before .before .before .before .before .args .payload)) (c .before .before .before .before .loop .at))
 
 -- the frame that was found, and its numbers
 framed : (c : tie.After-known-told Inv-loop μ-loop) → nextOf (drop (c .before .before .before .before .before .before .before .loop .at) (now (c .before .before .before .before .before .before .before .before .before .before .before .args .payload))) ≡ Frame (c .before .next .given .0 .0)
@@ -44,23 +44,23 @@ framed c = sym (next (c .before .before .before)) ∙ c .before .next .given .1
 numbers : (c : tie.After-known-told Inv-loop μ-loop) → Numbers (now (c .before .before .before .before .before .before .before .before .before .before .before .args .payload)) (c .before .before .before .before .before .before .before .loop .at) (c .before .next .given .0 .0 .pli)
 numbers c =
     let l = c .before .before .before .before .before .before .before in
-    let i = rw (c .before .next .given .1) at (c .before .before .before .next-frame .ensures .1) in
+    let i = rw (c .before .next .given .1) at (c .before .before .before .next-ahead .ensures .1) in
     numbers-of (now (c .before .before .before .before .before .before .before .before .before .before .before .args .payload)) (l .loop .at) (c .before .next .given .0 .0 .pli) (i .0) (i .1) (l .loop .inv .0 .inside) (l .loop .inv .1)
 
 loop-holds : tie.Need-loop-holds Inv-loop μ-loop
 loop-holds c = (seen-start (c .before .before .before .args .own) (now (c .before .before .before .args .payload)) (c .before .before .before .args .ports) (c .before .before .before .args .k) (ids (c .before .before .before)), omega arith)
 
-sub-next-frame : tie.Need-sub-next-frame Inv-loop μ-loop
-sub-next-frame c = omega (arith, c .before .before .loop .inv .0 .inside)
+sub-next-ahead : tie.Need-sub-next-ahead Inv-loop μ-loop
+sub-next-ahead c = omega (arith, c .before .before .loop .inv .0 .inside)
 
-part-next-frame-start : tie.Need-part-next-frame-start Inv-loop μ-loop
-part-next-frame-start c = omega (arith, c .before .before .loop .inv .0 .inside)
+part-next-ahead-start : tie.Need-part-next-ahead-start Inv-loop μ-loop
+part-next-ahead-start c = omega (arith, c .before .before .loop .inv .0 .inside)
 
-part-next-frame-end : tie.Need-part-next-frame-end Inv-loop μ-loop
-part-next-frame-end c = omega (arith, c .before .before .loop .inv .0 .inside)
+part-next-ahead-end : tie.Need-part-next-ahead-end Inv-loop μ-loop
+part-next-ahead-end c = omega (arith, c .before .before .loop .inv .0 .inside)
 
-next-frame-requires : tie.Need-next-frame-requires Inv-loop μ-loop
-next-frame-requires c κs = (c .before .before .before .before .before .table .ensures, c .before .before .before .before .table2 .ensures)
+next-ahead-requires : tie.Need-next-ahead-requires Inv-loop μ-loop
+next-ahead-requires c κs = (c .before .before .before .before .before .table .ensures, c .before .before .before .before .table2 .ensures)
 
 enum-told : tie.Need-enum-told Inv-loop μ-loop
 enum-told c = search needs
@@ -137,10 +137,10 @@ stretch-place-spec =
     table-requires
     table-requires-2
     loop-holds
-    sub-next-frame
-    part-next-frame-start
-    part-next-frame-end
-    next-frame-requires
+    sub-next-ahead
+    part-next-ahead-start
+    part-next-ahead-end
+    next-ahead-requires
     enum-told
     settle-requires
     returns

@@ -1,73 +1,84 @@
--- `payload::frames::next_frame` meets its contract: the tables are the true ones.
+-- `payload::frames::next_frame` meets its contract: the tables are the true ones, and a word is looked at only where there is one.
 -- Assumes nothing.
 use denote.Ref.{now}
 use mathlib.Core.Path.{_≡_, sym, ap, _∙_}
-use Prim.Native.Nat.{ℕ, _+_}
+use Prim.Native.Nat.{_+_, _≤_}
 use native.Mathlib.Omega.{arith}
-use Rattle.framing.specs.Reads.{fields, short, unreadable, foundXgem, readXgem}
-use Rattle.framing.proofs.Frames.{size-le}
-use Rattle.payload.proofs.Reading.{lent-xgem, pli-lt, none-ahead, lost-ahead, long-ahead, frame-ahead}
+use lib.ListN.{length}
+use Rattle.hec.specs.declared.Reading64.{Reading64}
+use Rattle.hec.specs.Reads.{found64}
+use Rattle.framing.specs.declared.xgem.XgemHeader.{XgemHeader}
+use Rattle.framing.specs.Layouts.{xgemOf, payloadSize}
+use Rattle.framing.specs.Reads.{Found, fields, unreadable, taken, readXgem}
+use Rattle.payload.proofs.Reading.{found-ahead, pli-lt, done-ahead, lost-ahead, long-ahead, frame-ahead}
 use borrow.Author.Needs.{needs}
 use Rattle.payload.proofs.frames.next_frame.Statement.{statement}
 use Rattle.payload.proofs.frames.next_frame.Tie as tie
 
-read-xgem-by-requires : tie.Need-read-xgem-by-requires
-read-xgem-by-requires c κs = search needs
+word-ahead-requires : tie.Need-word-ahead-requires
+word-ahead-requires c κs = search needs
 
--- the lent tables are the true ones
-read : (c : tie.After-read-xgem-by) → foundXgem (c .read-xgem-by .result) ≡ readXgem (now (c .before .before .args .left))
-read c =
-    let s = c .before .before in
-    c .read-xgem-by .ensures
-    ∙ lent-xgem (now (s .args .syndromes)) (now (s .args .flips)) (s .pre .0) (s .pre .1) (now (s .args .left))
-    (λ i. omega (arith, c .before .shared-slice-known .given i))
+read64-by-requires : tie.Need-read64-by-requires
+read64-by-requires c κs = search needs
+
+returns : tie.Need-returns
+returns c = (done-ahead (now (c .before .before .before .before .args .left)) (c .if1 .taken), tt)
+
+-- where there is a word, what is found by it is what stands there
+read : (c : tie.Else1) → let s = now (c .before .before .before .before .args .left) in (x : Found XgemHeader) → x ≡ taken xgemOf (found64 (c .before .read64-by .result)) → x ≡ readXgem s
+read c x e =
+    let b = c .before .before .before .before in
+    found-ahead (now (b .args .syndromes)) (now (b .args .flips)) (b .pre .0) (b .pre .1) (now (b .args .left)) (λ i. omega (arith, c .before .before .before .shared-slice-known .given i))
+    (c .before .before .word-ahead .result) (found64 (c .before .read64-by .result)) x (c .if1 .left) (c .before .before .word-ahead .ensures) (c .before .read64-by .ensures) e
+
+-- the fields of a word that was read
+fielded : (c : tie.After-of) → fields (c .of .result) ≡ readXgem (now (c .before .before .before .before .before .before .before .before .args .left))
+fielded c =
+    read (c .before .before .before .before) (fields (c .of .result))
+    (ap fields (c .of .ensures) ∙ ap (λ (r : Reading64). taken xgemOf (found64 r)) (sym (c .before .before .read .given .1)))
 
 enum-told : tie.Need-enum-told
 enum-told c = search needs
 
-enum-told-2 : tie.Need-enum-told-2
-enum-told-2 c = search needs
-
 enum-known-read : tie.Need-enum-known-read
 enum-known-read c = search needs
+
+of-requires : tie.Need-of-requires
+of-requires c κs = search needs
+
+sub-if2 : tie.Need-sub-if2
+sub-if2 c = search needs
 
 payload-size-requires : tie.Need-payload-size-requires
 payload-size-requires c κs = search needs
 
-add-if1 : tie.Need-add-if1
-add-if1 c = omega (arith, c .payload-size .ensures, size-le (c .before .before .read .given .0 .0 .pli), pli-lt (now (c .before .before .before .before .before .before .args .left)) _ (ap foundXgem (sym (c .before .before .read .given .1)) ∙ read (c .before .before .before .before)))
-
-returns : tie.Need-returns
-returns c = (none-ahead (now (c .before .before .before .before .args .left)) (ap foundXgem (sym (c .enum-told .given .1)) ∙ read (c .before .before)), tt)
-
 returns-2 : tie.Need-returns-2
-returns-2 c = (lost-ahead (now (c .before .before .before .before .args .left)) (ap foundXgem (sym (c .enum-told2 .given .1)) ∙ read (c .before .before)), tt)
+returns-2 c = (lost-ahead (now (c .before .before .before .before .before .before .args .left)) (read (c .before .before) unreadable (ap (λ (r : Reading64). taken xgemOf (found64 r)) (sym (c .enum-told .given .1)))), tt)
 
 returns-3 : tie.Need-returns-3
 returns-3 c =
-    let s = now (c .before .before .before .before .before .before .before .args .left) in
-    let x = c .before .before .before .read .given .0 .0 in
-    let e = ap foundXgem (sym (c .before .before .before .read .given .1)) ∙ read (c .before .before .before .before .before) in
-    (long-ahead s x e (omega (arith, c .before .payload-size .ensures)), tt)
+    (long-ahead (now (c .before .before .before .before .before .before .before .before .before .before .args .left)) (c .before .before .of .result) (fielded (c .before .before)) (omega (arith, c .before .payload-size .ensures, c .if2 .taken, c .before .before .before .before .before .before .if1 .left)), tt)
 
 returns-4 : tie.Need-returns-4
 returns-4 c =
-    let s = now (c .before .before .before .before .before .before .before .args .left) in
-    let x = c .before .before .before .read .given .0 .0 in
-    let e = ap foundXgem (sym (c .before .before .before .read .given .1)) ∙ read (c .before .before .before .before .before) in
-    (frame-ahead s x e (omega (arith, c .before .payload-size .ensures)), (pli-lt s x e, omega (arith, c .before .payload-size .ensures)))
+    let s = now (c .before .before .before .before .before .before .before .before .before .before .args .left) in
+    let x = c .before .before .of .result in
+    let e = fielded (c .before .before) in
+    let h : 8 + payloadSize (x .pli) ≤ length s = omega (arith, c .before .payload-size .ensures, c .if2 .left, c .before .before .before .before .before .before .if1 .left) in
+    (frame-ahead s x e h, (pli-lt s x e, h))
 
 pub next-frame-spec : {M : Type 1} → statement M
 next-frame-spec =
     tie.close
     (tie.spec
-    read-xgem-by-requires
-    enum-told
-    enum-told-2
-    enum-known-read
-    payload-size-requires
-    add-if1
+    word-ahead-requires
+    read64-by-requires
     returns
+    enum-told
+    enum-known-read
+    of-requires
+    sub-if2
+    payload-size-requires
     returns-2
     returns-3
     returns-4)

@@ -42,8 +42,8 @@ lay-at-requires-2 c κs = search needs
 add-c : tie.Need-add-c
 add-c c = search needs
 
-lay-at-requires-3 : tie.Need-lay-at-requires-3
-lay-at-requires-3 c κs = search needs
+lay-body-requires : tie.Need-lay-body-requires
+lay-body-requires c κs = search needs
 
 same-length : tie.Need-same-length
 same-length c = search needs
@@ -52,7 +52,7 @@ returns : tie.Need-returns
 returns c =
     let s = c .before .before .before .before .before .before .before .before .before .before .before .before .before .before .before .before .before .before in
     let a = s .args in
-    c .before .before .lay-at3 .ensures
+    c .before .before .lay-body .ensures
     ∙ ap (λ (x : List ℕ). put x (a .at + 4 + length (now (a .part))) (now (a .body)))
     (c .before .before .before .before .before .before .lay-at2 .ensures ∙ ap (λ (x : List ℕ). put x (a .at + 4) (now (a .part))) (c .before .before .before .before .before .before .before .before .before .before .lay-at .ensures))
     ∙ delivered (now (a .target)) (a .at) _ (a .port) (now (a .part)) (now (a .body)) (omega (arith, s .pre)) refl
@@ -71,6 +71,6 @@ deliver-spec =
     add-b
     lay-at-requires-2
     add-c
-    lay-at-requires-3
+    lay-body-requires
     same-length
     returns)
