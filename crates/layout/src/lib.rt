@@ -29,14 +29,13 @@ fn same_octets(a: [u8; 208], b: &[u8]) -> bool
     requires { ⌜ stateBytes ≤ length (now b) ⌝ }
     ensures { λ r. ⌜ r ≡ same a (take stateBytes (now (b .entry))) ⌝ }
 {
+    let mut all = true;
     let mut i: usize = 0;
     while i < STATE_BYTES {
-        if a[i] != b[i] {
-            return false;
-        }
+        all = all & (a[i] == b[i]);
         i += 1;
     }
-    true
+    all
 }
 
 // The one byte form of a state.

@@ -1,98 +1,133 @@
--- The ranges, one place at a time.
+-- The tests of all places, one turn at a time.
 -- Assumes nothing.
-use Prim.Native.Nat.{ℕ, zero, suc, min, _+_, _-_, _≤_, _<_}
-use mathlib.Core.Path.{_≡_, _∙_, refl, sym, ap}
-use mathlib.Core.List.{List, [], _∷_}
+use Prim.Native.Nat.{ℕ, zero, suc, _+_, _-_, _≤_, _<_}
+use mathlib.Core.Path.{_≡_, _∙_, refl, sym, ap, ap₂}
+use mathlib.Core.List.{List, _++_, append-nil}
 use mathlib.Core.Bool.{Bool, true, false, not, _&&_, _||_, cond, and-assoc}
 use native.Mathlib.Omega.{arith}
 use native.Mathlib.Numerals.{add-one}
-use lib.ListN.{length, getD}
-use lib.Seq.{slice}
-use lib.Dec.{eqb}
-use borrow.Author.Tests.{eqb-true}
-use Rattle.ids.specs.declared.AllocId.{AllocId}
-use Rattle.ids.specs.declared.PortId.{PortId}
-use Rattle.ids.specs.Ids.{assignableAlloc, assignablePort, sameAlloc, samePort}
+use lib.ListN.{length, getD, drop, set, drop-of-length-le}
+use lib.Seq.{sets, sets-eq, drop-cons}
+use lib.Dec.{eqb, leb}
+use borrow.Author.Tests.{le-leb, eqb-true}
 use Rattle.station.specs.Lists.{some}
-use Rattle.station.specs.Limits.{addedPorts}
-use Rattle.station.specs.Held.{noAlloc}
+use Rattle.ids.specs.declared.PortId.{PortId}
+use Rattle.ids.specs.Ids.{samePort}
 use Rattle.station.specs.Slots.{noPort}
-use Rattle.station.proofs.Places.{slice-next, slice-past}
-use Rattle.ranges.specs.Ranges.{proper, held, allocFits, portFits, every, emptySlot, partialFits, slotFits}
+use Rattle.ranges.specs.Ranges.{every, placeNumber, numbersFrom, times, equalPairs, partialFits, slotFits, partialsFit, lengthFits, emptyFits}
+use Rattle.ranges.proofs.Places.{numbers-length}
 
--- ---- whether one of the first n, from i on, passes a test
+-- ---- every number from i below n passes a test
 
-module _ {A : Type 0} (f : A → Bool) (i n : ℕ) (l : List A) (d : A) (h : i < n) (k : i < length l) where
-  pub some-here : f (getD l i d) ≡ true → some f (slice i n l) ≡ true
-  some-here e = rw (slice-next f i n l d h k, e)
+pub every-turn : (f : ℕ → Bool) (i n : ℕ) (all : Bool) → i < n → ((all && f i) && every f (i + 1) (n - (i + 1))) ≡ (all && every f i (n - i))
+every-turn f i n all h = let e : n - i ≡ suc (n - (i + 1)) = omega arith in rw e (and-assoc all (f i) (every f (i + 1) (n - (i + 1))))
 
-  pub some-next : f (getD l i d) ≡ false → some f (slice i n l) ≡ some f (slice (i + 1) n l)
-  some-next e = rw (add-one i, slice-next f i n l d h k, e)
+pub every-end : (f : ℕ → Bool) (i n : ℕ) (all : Bool) → n ≤ i → all ≡ (all && every f i (n - i))
+every-end f i n true h = let e : n - i ≡ 0 = omega arith in rw e
+every-end f i n false h = refl
 
-pub some-none : {A : Type 0} (f : A → Bool) (i n : ℕ) (l : List A) → min n (length l) ≤ i → some f (slice i n l) ≡ false
-some-none f i n l h = rw (slice-past i n l h)
+-- ---- none from i on passes a test
 
--- ---- whether all from i on are in range and distinct
-
-pub allocs-turn
-    : (ids : List AllocId) (i n : ℕ) → i < n → i < length ids
-    → proper assignableAlloc sameAlloc (slice i n ids) ≡ (allocFits ids i n && proper assignableAlloc sameAlloc (slice (i + 1) n ids))
-unfolding allocFits
-allocs-turn ids i n h k =
-    rw (slice-next assignableAlloc i n ids noAlloc h k, add-one i)
-    (sym (and-assoc (assignableAlloc (getD ids i noAlloc)) (not (some (sameAlloc (getD ids i noAlloc)) (slice (suc i) n ids))) (proper assignableAlloc sameAlloc (slice (suc i) n ids))))
-
-pub allocs-end : (ids : List AllocId) (i n : ℕ) → n ≤ i → proper assignableAlloc sameAlloc (slice i n ids) ≡ true
-allocs-end ids i n h = rw (slice-past i n ids (omega arith))
-
--- a port that is one finds no empty slot to be the same as
-among-held
-    : (p : PortId) (l : List PortId) → samePort p noPort ≡ false → some (samePort p) (held l) ≡ some (samePort p) l
-among-held p [] e = refl
-among-held p (q ∷ l) e = go (samePort q noPort) refl (among-held p l e)
+pub none-turn
+    : (f : ℕ → Bool) (l : List ℕ) (i : ℕ) (all : Bool) → i < length l
+    → ((all && not (f (getD l i 0))) && not (some f (drop (i + 1) l))) ≡ (all && not (some f (drop i l)))
+none-turn f l i all h = rw (add-one i, drop-cons l i 0 h) (go all (f (getD l i 0)))
   where
-    go
-        : (b : Bool) → samePort q noPort ≡ b → some (samePort p) (held l) ≡ some (samePort p) l
-        → some (samePort p) (cond b (held l) (q ∷ held l)) ≡ some (samePort p) (q ∷ l)
-    go true t ih = rw (eqb-true (q .0) 0 t, e) ih
-    go false t ih = ap (λ (x : Bool). samePort p q || x) ih
+    go : (a b : Bool) → ((a && not b) && not (some f (drop (suc i) l))) ≡ (a && not (b || some f (drop (suc i) l)))
+    go true true = refl
+    go true false = refl
+    go false b = refl
 
-port-step
-    : (p : PortId) (l : List PortId) (b : Bool) → samePort p noPort ≡ b
-    → proper assignablePort samePort (cond b (held l) (p ∷ held l))
-    ≡ (cond b true (assignablePort p && not (some (samePort p) l)) && proper assignablePort samePort (held l))
-port-step p l true t = refl
-port-step p l false t =
-    rw (among-held p l t)
-    (sym (and-assoc (assignablePort p) (not (some (samePort p) l)) (proper assignablePort samePort (held l))))
+pub none-end : (f : ℕ → Bool) (l : List ℕ) (i : ℕ) (all : Bool) → length l ≤ i → all ≡ (all && not (some f (drop i l)))
+none-end f l i true h = rw (drop-of-length-le l {i = i} h)
+none-end f l i false h = refl
 
-pub ports-turn
-    : (ids : List PortId) (i : ℕ) → i < addedPorts → i < length ids
-    → proper assignablePort samePort (held (slice i addedPorts ids))
-    ≡ (portFits ids i && proper assignablePort samePort (held (slice (i + 1) addedPorts ids)))
-unfolding portFits
-ports-turn ids i h k =
-    rw (slice-next assignablePort i addedPorts ids noPort h k, add-one i)
-    (port-step (getD ids i noPort) (slice (suc i) addedPorts ids) (samePort (getD ids i noPort) noPort) refl)
+-- ---- numbers counted from i on
 
-pub ports-end : (ids : List PortId) (i : ℕ) → addedPorts ≤ i → proper assignablePort samePort (held (slice i addedPorts ids)) ≡ true
-ports-end ids i h = rw (slice-past i addedPorts ids (omega arith))
+pub times-turn
+    : (n : ℕ) (l : List ℕ) (i sum one : ℕ) → i < length l → one ≡ cond (eqb n (getD l i 0)) 1 0
+    → (sum + one) + times n (drop (i + 1) l) ≡ sum + times n (drop i l)
+times-turn n l i sum one h e = rw (add-one i, drop-cons l i 0 h, e) (omega arith)
 
--- ---- every number from i below n
+pub one-most : (t : Bool) (one : ℕ) → one ≡ cond t 1 0 → one ≤ 1
+one-most true one e = omega arith
+one-most false one e = omega arith
 
-pub every-turn : (f : ℕ → Bool) (i n : ℕ) → i < n → every f i (n - i) ≡ (f i && every f (i + 1) (n - (i + 1)))
-every-turn f i n h = let e : n - i ≡ suc (n - (i + 1)) = omega arith in rw e
+pub times-end : (n : ℕ) (l : List ℕ) (i : ℕ) → length l ≤ i → times n (drop i l) ≡ 0
+times-end n l i h = rw (drop-of-length-le l {i = i} h)
 
-pub every-end : (f : ℕ → Bool) (i n : ℕ) → n ≤ i → every f i (n - i) ≡ true
-every-end f i n h = let e : n - i ≡ 0 = omega arith in rw e
+pub pairs-turn
+    : (k l : List ℕ) (i sum found : ℕ) → i < length k → found ≡ times (getD k i 0) l
+    → (sum + found) + equalPairs (drop (i + 1) k) l ≡ sum + equalPairs (drop i k) l
+pairs-turn k l i sum found h e = rw (add-one i, drop-cons k i 0 h, e) (omega arith)
 
-pub empty-after : (ids : List PortId) (slot : ℕ) → (slot ≡ 0 → ⊥) → samePort (getD ids (slot - 1) noPort) noPort ≡ emptySlot ids slot
-empty-after ids zero h = absurd (h refl)
-empty-after ids (suc i) h = let e : suc i - 1 ≡ i = omega arith in rw e
+pub pairs-end : (k l : List ℕ) (i : ℕ) → length k ≤ i → equalPairs (drop i k) l ≡ 0
+pairs-end k l i h = rw (drop-of-length-le k {i = i} h)
 
--- what the test finds of the slot whose emptiness it was told
-pub slot-fits
-    : (ids : List PortId) (lengths : List ℕ) (waiting : List Bool) (i : ℕ) (e : Bool) → e ≡ emptySlot ids i
-    → partialFits (getD lengths i 0) (getD waiting i false) e ≡ slotFits ids lengths waiting i
-unfolding slotFits
-slot-fits ids lengths waiting i e h = rw h
+-- ---- the numbers of places set from i on
+
+module _ {A : Type 0} (used : ℕ → A → Bool) (ok : A → Bool) (number : A → ℕ) where
+  pub numbers-start : (ids : List A) (l : List ℕ) → length l ≡ length ids → sets l 0 (numbersFrom used ok number 0 ids) ≡ numbersFrom used ok number 0 ids
+  numbers-start ids l e =
+      let n : length (numbersFrom used ok number 0 ids) ≡ length ids = numbers-length used ok number 0 ids in
+      sets-eq (numbersFrom used ok number 0 ids) l 0 (omega arith)
+      ∙ ap (λ (r : List ℕ). numbersFrom used ok number 0 ids ++ r) (drop-of-length-le l {i = 0 + length (numbersFrom used ok number 0 ids)} (omega arith))
+      ∙ append-nil (numbersFrom used ok number 0 ids)
+
+  pub numbers-turn
+      : (ids : List A) (d : A) (l : List ℕ) (i x : ℕ) → i < length ids → x ≡ placeNumber (used i (getD ids i d)) (ok (getD ids i d)) (number (getD ids i d)) i
+      → sets (set l i x) (i + 1) (numbersFrom used ok number (i + 1) (drop (i + 1) ids)) ≡ sets l i (numbersFrom used ok number i (drop i ids))
+  numbers-turn ids d l i x h e = rw (drop-cons ids i d h, e, add-one i)
+
+  pub numbers-end : (ids : List A) (l : List ℕ) (i : ℕ) → length ids ≤ i → l ≡ sets l i (numbersFrom used ok number i (drop i ids))
+  numbers-end ids l i h = rw (drop-of-length-le ids {i = i} h)
+
+-- ---- a partial fits where its length does and its slot, if empty, has none
+
+partial-both : (b : ℕ) (w e : Bool) → partialFits b w e ≡ (partialFits b w false && (not e || eqb b 0))
+unfolding partialFits
+partial-both b w e = go w e (eqb b 0) (leb b 2048) (λ h. le-leb b 2048 (omega (arith, eqb-true b 0 h)))
+  where
+    kept : (x : Bool) → x ≡ (x && true)
+    kept true = refl
+    kept false = refl
+
+    go : (w e t u : Bool) → (t ≡ true → u ≡ true) → cond (w || e) t u ≡ (cond (w || false) t u && (not e || t))
+    go true true true u h = refl
+    go true true false u h = refl
+    go true false t u h = kept t
+    go false true true u h = rw (h refl)
+    go false true false true h = refl
+    go false true false false h = refl
+    go false false t u h = kept u
+
+slot-both
+    : (ids : List PortId) (lengths : List ℕ) (waiting : List Bool) (i : ℕ)
+    → slotFits ids lengths waiting (i + 1) ≡ (lengthFits lengths waiting (i + 1) && emptyFits ids lengths i)
+unfolding slotFits lengthFits emptyFits
+slot-both ids lengths waiting i =
+    rw (add-one i) (partial-both (getD lengths (suc i) 0) (getD waiting (suc i) false) (samePort (getD ids i noPort) noPort))
+
+every-both
+    : (f g h : ℕ → Bool) → ((i : ℕ) → f (i + 1) ≡ (g (i + 1) && h i)) → (i k : ℕ)
+    → every f (i + 1) k ≡ (every g (i + 1) k && every h i k)
+every-both f g h e i zero = refl
+every-both f g h e i (suc k) =
+    ap₂ _&&_ (e i) (every-both f g h e (i + 1) k)
+    ∙ swap (g (i + 1)) (h i) (every g (i + 1 + 1) k) (every h (i + 1) k)
+  where
+    swap : (a b c d : Bool) → ((a && b) && (c && d)) ≡ ((a && c) && (b && d))
+    swap true true c d = refl
+    swap true false true d = refl
+    swap true false false d = refl
+    swap false b c d = refl
+
+-- slot 0 is never empty
+pub partials-both
+    : (ids : List PortId) (lengths : List ℕ) (waiting : List Bool)
+    → partialsFit ids lengths waiting ≡ (every (lengthFits lengths waiting) 0 17 && every (emptyFits ids lengths) 0 16)
+unfolding partialsFit slotFits lengthFits
+partials-both ids lengths waiting =
+    ap (λ (x : Bool). lengthFits lengths waiting 0 && x)
+    (every-both (slotFits ids lengths waiting) (lengthFits lengths waiting) (emptyFits ids lengths) (slot-both ids lengths waiting) 0 16)
+    ∙ sym (and-assoc (lengthFits lengths waiting 0) (every (lengthFits lengths waiting) 1 16) (every (emptyFits ids lengths) 0 16))

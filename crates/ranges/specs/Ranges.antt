@@ -4,7 +4,6 @@ use Prim.Native.Nat.{ℕ, zero, suc, _+_, _-_}
 use mathlib.Core.List.{List, [], _∷_}
 use mathlib.Core.Bool.{Bool, true, false, _&&_, _||_, not, cond}
 use lib.ListN.{getD}
-use lib.Seq.{slice}
 use lib.Dec.{leb, ltb, eqb}
 use Rattle.ids.specs.declared.OnuId.{OnuId}
 use Rattle.ids.specs.declared.AllocId.{AllocId}
@@ -18,7 +17,7 @@ use Rattle.station.specs.declared.slots.Ports.{Ports}
 use Rattle.station.specs.Limits.{addedAllocs, addedPorts, mostOwed, slots, slotBytes, upstreamWords, to1, to2}
 use Rattle.station.specs.Lists.{some}
 use Rattle.station.specs.States.{holdsIdentity}
-use Rattle.station.specs.Held.{heldAllocs, noAlloc}
+use Rattle.station.specs.Held.{heldAllocs}
 use Rattle.station.specs.Slots.{noPort}
 
 -- "ONU-ID at most 1,022 in O4, O5, O6, else 1,023"
@@ -81,12 +80,48 @@ inRange s =
     && (partialsFit (s .ports .ids) (s .ports .lengths) (s .ports .waiting)
     && (leb (s .carried) (upstreamWords - 1) && (timerFits (s .activation) && leb (s .link .owed .count) mostOwed)))))
 
--- ---- the same, one place at a time
+-- ---- the same, all places at once: each gets a number, and the numbers are distinct where those in use are
 
-unfoldable pub allocFits : List AllocId → ℕ → ℕ → Bool
-allocFits ids i n = assignableAlloc (getD ids i noAlloc) && not (some (sameAlloc (getD ids i noAlloc)) (slice (i + 1) n ids))
+-- stands for a number that cannot be assigned
+abbrev pub unfit : ℕ
+unfit = 65535
 
-unfoldable pub portFits : List PortId → ℕ → Bool
-portFits ids i =
-    cond (samePort (getD ids i noPort) noPort) true
-    (assignablePort (getD ids i noPort) && not (some (samePort (getD ids i noPort)) (slice (i + 1) addedPorts ids)))
+abbrev pub isUnfit : ℕ → Bool
+isUnfit number = eqb number unfit
+
+-- an unused place has its own number, which is below every one that can be assigned
+unfoldable pub placeNumber : Bool → Bool → ℕ → ℕ → ℕ
+placeNumber used assignable number place = cond used (cond assignable number unfit) place
+
+-- of the places from i on
+abbrev pub numbersFrom : {A : Type 0} → (ℕ → A → Bool) → (A → Bool) → (A → ℕ) → ℕ → List A → List ℕ
+numbersFrom used ok number i [] = []
+numbersFrom used ok number i (a ∷ l) = placeNumber (used i a) (ok a) (number a) i ∷ numbersFrom used ok number (i + 1) l
+
+-- of the Alloc-IDs the first n are in use
+unfoldable pub allocNumbers : ℕ → List AllocId → List ℕ
+allocNumbers n ids = numbersFrom (λ (i : ℕ) (a : AllocId). ltb i n) assignableAlloc (λ (a : AllocId). a .0) 0 ids
+
+unfoldable pub portNumbers : List PortId → List ℕ
+portNumbers ids = numbersFrom (λ (i : ℕ) (p : PortId). not (samePort p noPort)) assignablePort (λ (p : PortId). p .0) 0 ids
+
+-- how often a number is among them
+abbrev pub times : ℕ → List ℕ → ℕ
+times n [] = 0
+times n (m ∷ l) = cond (eqb n m) 1 0 + times n l
+
+-- summed over some of them; over all, it is how many they are where they are distinct
+abbrev pub equalPairs : List ℕ → List ℕ → ℕ
+equalPairs [] l = 0
+equalPairs (n ∷ k) l = times n l + equalPairs k l
+
+unfoldable pub numbersFit : List ℕ → Bool
+numbersFit l = not (some isUnfit l) && eqb (equalPairs l l) 16
+
+-- "partials at most 2,048, and 0 for a waiting port"
+unfoldable pub lengthFits : List ℕ → List Bool → ℕ → Bool
+lengthFits lengths waiting slot = partialFits (getD lengths slot 0) (getD waiting slot false) false
+
+-- "and 0 for [an] empty slot": the slot after the place i
+unfoldable pub emptyFits : List PortId → List ℕ → ℕ → Bool
+emptyFits ids lengths i = not (samePort (getD ids i noPort) noPort) || eqb (getD lengths (i + 1) 0) 0

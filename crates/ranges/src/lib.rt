@@ -1,13 +1,12 @@
 // The paper's "State ranges": what answer 1 refuses.
 ghost use mathlib.Core.Path.{_≡_};
-ghost use mathlib.Core.Bool.{Bool};
-ghost use Prim.Native.Nat.{_≤_, _<_};
-ghost use lib.Seq.{slice};
-ghost use Rattle.ids.specs.Ids.{sameAlloc, samePort, assignableAlloc, within};
-ghost use Rattle.station.specs.Limits.{addedAllocs, addedPorts, slots};
+ghost use mathlib.Core.Bool.{Bool, false, not, cond};
+ghost use Rattle.ids.specs.Ids.{within};
+ghost use Rattle.station.specs.Limits.{addedPorts, slots};
 ghost use Rattle.station.specs.Lists.{some};
-ghost use Rattle.ranges.specs.Ranges.{identityFits, timerFits, proper, allocFits, allocsFit, portFits, portsFit};
-ghost use Rattle.ranges.specs.Ranges.{emptySlot, partialFits, partialsFit, inRange};
+ghost use Rattle.ranges.specs.Ranges.{identityFits, timerFits, allocsFit, portsFit, every, partialFits, partialsFit, inRange};
+ghost use Rattle.ranges.specs.Ranges.{placeNumber, allocNumbers, portNumbers, isUnfit, times, equalPairs, numbersFit};
+ghost use Rattle.ranges.specs.Ranges.{lengthFits, emptyFits};
 use ids::AllocId;
 use ids::OnuId;
 use ids::PortId;
@@ -55,45 +54,99 @@ fn timer_fits(a: Activation) -> bool
     }
 }
 
-fn alloc_among(ids: [AllocId; 16], from: usize, n: usize, id: AllocId) -> bool
-    requires { ⌜ n ≤ addedAllocs ⌝ }
-    ensures { λ r. ⌜ r ≡ some (sameAlloc id) (slice from n ids) ⌝ }
+// The tests of all places have no early exits, so that a processor can do several places at once.
+
+// Stands for a number that cannot be assigned: of no Alloc-ID, and of idle XGEM frames' port.
+const UNFIT: u16 = 65535;
+
+// An unused place's own number is no other's: all that can be assigned are above 15 (Tables 6-2 and 6-3).
+fn place_number(used: bool, assignable: bool, number: u16, place: u16) -> u16
+    ensures { λ r. ⌜ r ≡ placeNumber used assignable number place ⌝ }
 {
-    let mut i = from;
-    while i < n {
-        let other = ids[i];
-        if id.is(other) {
-            return true;
-        }
-        i += 1;
+    if !used {
+        return place;
     }
-    false
+    if !assignable {
+        return UNFIT;
+    }
+    number
 }
 
-// The i-th of n is in range, and none of those behind it is the same.
-fn alloc_fits(ids: [AllocId; 16], i: usize, n: usize) -> bool
-    requires { ⌜ (i < n) × (n ≤ addedAllocs) ⌝ }
-    ensures { λ r. ⌜ r ≡ allocFits ids i n ⌝ }
+fn alloc_numbers(ids: [AllocId; 16], n: usize) -> [u16; 16]
+    ensures { λ r. ⌜ r ≡ allocNumbers n ids ⌝ }
 {
-    let id = ids[i];
-    if !id.is_assignable() {
-        return false;
-    }
-    !alloc_among(ids, i + 1, n, id)
-}
-
-fn all_allocs_fit(ids: [AllocId; 16], n: usize) -> bool
-    requires { ⌜ n ≤ addedAllocs ⌝ }
-    ensures { λ r. ⌜ r ≡ proper assignableAlloc sameAlloc (slice 0 n ids) ⌝ }
-{
+    let mut numbers = [0u16; 16];
     let mut i: usize = 0;
-    while i < n {
-        if !alloc_fits(ids, i, n) {
-            return false;
-        }
+    while i < station::held::ADDED_ALLOCS {
+        let id = ids[i];
+        numbers[i] = place_number(i < n, id.is_assignable(), id.0, i as u16);
         i += 1;
     }
-    true
+    numbers
+}
+
+fn port_numbers(ids: [PortId; 16]) -> [u16; 16]
+    ensures { λ r. ⌜ r ≡ portNumbers ids ⌝ }
+{
+    let none = PortId(0);
+    let mut numbers = [0u16; 16];
+    let mut i: usize = 0;
+    while i < station::slots::ADDED_PORTS {
+        let id = ids[i];
+        numbers[i] = place_number(!id.is(none), id.is_assignable(), id.0, i as u16);
+        i += 1;
+    }
+    numbers
+}
+
+fn none_unfit(numbers: [u16; 16]) -> bool
+    ensures { λ r. ⌜ r ≡ not (some isUnfit numbers) ⌝ }
+{
+    let mut all = true;
+    let mut i: usize = 0;
+    while i < 16 {
+        all = all & (numbers[i] != UNFIT);
+        i += 1;
+    }
+    all
+}
+
+fn one_if(hit: bool) -> u16
+    ensures { λ r. ⌜ r ≡ cond hit 1 0 ⌝ }
+{
+    if hit { 1 } else { 0 }
+}
+
+fn times_in(numbers: [u16; 16], number: u16) -> u16
+    ensures { λ r. ⌜ r ≡ times number numbers ⌝ }
+{
+    let mut sum: u16 = 0;
+    let mut i: usize = 0;
+    while i < 16 {
+        sum += one_if(number == numbers[i]);
+        i += 1;
+    }
+    sum
+}
+
+// 16 where they are distinct: each number then equals only itself.
+fn equal_pairs(numbers: [u16; 16]) -> u16
+    ensures { λ r. ⌜ r ≡ equalPairs numbers numbers ⌝ }
+{
+    let mut sum: u16 = 0;
+    let mut i: usize = 0;
+    while i < 16 {
+        sum += times_in(numbers, numbers[i]);
+        i += 1;
+    }
+    sum
+}
+
+fn numbers_fit(numbers: [u16; 16]) -> bool
+    ensures { λ r. ⌜ r ≡ numbersFit numbers ⌝ }
+{
+    let fit = none_unfit(numbers);
+    fit & (equal_pairs(numbers) == 16)
 }
 
 fn allocs_fit(allocs: Allocs) -> bool
@@ -104,88 +157,59 @@ fn allocs_fit(allocs: Allocs) -> bool
     if station::held::ADDED_ALLOCS < n {
         return false;
     }
-    all_allocs_fit(ids, n)
-}
-
-fn port_among(ids: [PortId; 16], from: usize, id: PortId) -> bool
-    ensures { λ r. ⌜ r ≡ some (samePort id) (slice from addedPorts ids) ⌝ }
-{
-    let mut i = from;
-    while i < station::slots::ADDED_PORTS {
-        let other = ids[i];
-        if id.is(other) {
-            return true;
-        }
-        i += 1;
-    }
-    false
-}
-
-// The slot is empty, or its port is in range and none of those behind it is the same.
-fn port_fits(ids: [PortId; 16], i: usize) -> bool
-    requires { ⌜ i < addedPorts ⌝ }
-    ensures { λ r. ⌜ r ≡ portFits ids i ⌝ }
-{
-    let id = ids[i];
-    let none = PortId(0);
-    if id.is(none) {
-        return true;
-    }
-    if !id.is_assignable() {
-        return false;
-    }
-    !port_among(ids, i + 1, id)
+    numbers_fit(alloc_numbers(ids, n))
 }
 
 fn ports_fit(ids: [PortId; 16]) -> bool
     ensures { λ r. ⌜ r ≡ portsFit ids ⌝ }
 {
-    let mut i: usize = 0;
-    while i < station::slots::ADDED_PORTS {
-        if !port_fits(ids, i) {
-            return false;
-        }
-        i += 1;
-    }
-    true
+    numbers_fit(port_numbers(ids))
 }
 
-fn slot_empty(ids: [PortId; 16], slot: usize) -> bool
-    requires { ⌜ slot < slots ⌝ }
-    ensures { λ r. ⌜ r ≡ emptySlot ids slot ⌝ }
-{
-    if slot == 0 {
-        return false;
-    }
-    let id = ids[slot - 1];
-    let none = PortId(0);
-    id.is(none)
-}
-
-// "partials at most 2,048, and 0 for a waiting port or empty slot"
-fn partial_fits(bytes: u16, waits: bool, empty: bool) -> bool
-    ensures { λ r. ⌜ r ≡ partialFits bytes waits empty ⌝ }
+// "partials at most 2,048, and 0 for a waiting port"
+fn length_fits(bytes: u16, waits: bool) -> bool
+    ensures { λ r. ⌜ r ≡ partialFits bytes waits false ⌝ }
 {
     if waits {
-        return bytes == 0;
-    }
-    if empty {
         return bytes == 0;
     }
     bytes as usize <= SLOT_BYTES
 }
 
+fn lengths_fit(lengths: [u16; 17], waiting: [bool; 17]) -> bool
+    ensures { λ r. ⌜ r ≡ every (lengthFits lengths waiting) 0 slots ⌝ }
+{
+    let mut all = true;
+    let mut i: usize = 0;
+    while i < station::slots::SLOTS {
+        all = all & length_fits(lengths[i], waiting[i]);
+        i += 1;
+    }
+    all
+}
+
+// "and 0 for [an] empty slot"
+fn empties_fit(ids: [PortId; 16], lengths: [u16; 17]) -> bool
+    ensures { λ r. ⌜ r ≡ every (emptyFits ids lengths) 0 addedPorts ⌝ }
+{
+    let none = PortId(0);
+    let mut all = true;
+    let mut i: usize = 0;
+    while i < station::slots::ADDED_PORTS {
+        let id = ids[i];
+        all = all & (!id.is(none) | (lengths[i + 1] == 0));
+        i += 1;
+    }
+    all
+}
+
 fn partials_fit(ids: [PortId; 16], lengths: [u16; 17], waiting: [bool; 17]) -> bool
     ensures { λ r. ⌜ r ≡ partialsFit ids lengths waiting ⌝ }
 {
-    let mut i: usize = 0;
-    while i < station::slots::SLOTS {
-        if !partial_fits(lengths[i], waiting[i], slot_empty(ids, i)) {
-            return false;
-        }
-        i += 1;
+    if !lengths_fit(lengths, waiting) {
+        return false;
     }
-    true
+    empties_fit(ids, lengths)
 }
 
 pub fn in_range(s: Station) -> bool

@@ -1,37 +1,33 @@
 -- `layout::same_octets` meets its contract.
 -- Assumes nothing.
 use mathlib.Core.Path.{_≡_, refl, sym, ap, _∙_}
+use mathlib.Core.Bool.{_&&_}
 use native.Mathlib.Omega.{arith}
 use borrow.Author.Needs.{needs}
 use denote.Ref.{now}
-use Prim.Native.Nat.{_≤_, _<_, _-_}
-use lib.ListN.{length, drop, take}
+use Prim.Native.Nat.{ℕ, _≤_, _+_, _-_}
+use lib.Dec.{eqb}
+use lib.ListN.{length, drop, take, getD}
 use lib.Seq.{getD-take, length-take-le}
 use Rattle.ploam.specs.Integrity.{same}
-use Rattle.ploam.proofs.Same.{same-more, same-not, same-end}
+use Rattle.layout.proofs.Laws.{same-turn, same-past}
 use Rattle.layout.proofs.same_octets.Statement.{statement}
 use Rattle.layout.proofs.same_octets.Tie as tie
 
 abbrev Inv-loop : tie.InvT-loop
-Inv-loop b a i₀ i = (i ≤ 208) × (length a ≡ 208) × (same (drop i a) (drop i (take 208 b)) ≡ same a (take 208 b))
+Inv-loop b a all₀ i₀ all i = (i ≤ 208) × (length a ≡ 208) × ((all && same (drop i a) (drop i (take 208 b))) ≡ same a (take 208 b))
 
 abbrev μ-loop : tie.MeasureT-loop
-μ-loop b a i₀ i = 208 - i
+μ-loop b a all₀ i₀ all i = 208 - i
 
 loop-holds : tie.Need-loop-holds Inv-loop μ-loop
 loop-holds c = (omega arith, search needs, refl)
 
-array-read-if1 : tie.Need-array-read-if1 Inv-loop μ-loop
-array-read-if1 c = search needs
+array-read-all : tie.Need-array-read-all Inv-loop μ-loop
+array-read-all c = search needs
 
-shared-slice-read-if1 : tie.Need-shared-slice-read-if1 Inv-loop μ-loop
-shared-slice-read-if1 c = search needs
-
-returns : tie.Need-returns Inv-loop μ-loop
-returns c =
-    let b = now (c .before .before .before .before .args .b) in
-    let w = length-take-le 208 b (c .before .before .before .before .pre) in
-    same-not (c .before .before .before .before .args .t1) (take 208 b) (c .before .before .before .loop .i) (omega (arith, c .before .before .before .loop .inv .1)) (omega (arith, w)) (λ e. c .if1 .taken (e ∙ getD-take 208 b (c .before .before .before .loop .i) 0 (omega arith))) ∙ c .before .before .before .loop .inv .2
+shared-slice-read-all : tie.Need-shared-slice-read-all Inv-loop μ-loop
+shared-slice-read-all c = search needs
 
 add-i : tie.Need-add-i Inv-loop μ-loop
 add-i c = search needs
@@ -41,15 +37,18 @@ loop-less c = search needs
 
 loop-again : tie.Need-loop-again Inv-loop μ-loop
 loop-again c =
-    let b = now (c .before .before .before .before .args .b) in
-    let w = length-take-le 208 b (c .before .before .before .before .pre) in
-    (omega arith, c .before .before .before .loop .inv .1, same-more (c .before .before .before .before .args .t1) (take 208 b) (c .before .before .before .loop .i) (omega (arith, c .before .before .before .loop .inv .1)) (omega (arith, w)) (c .if1 .left ∙ sym (getD-take 208 b (c .before .before .before .loop .i) 0 (omega arith))) ∙ c .before .before .before .loop .inv .2)
+    let a = c .before .before .before .args .t1 in
+    let b = now (c .before .before .before .args .b) in
+    let l = c .before .before .loop in
+    let w = length-take-le 208 b (c .before .before .before .pre) in
+    (omega arith, l .inv .1, ap (λ (n : ℕ). (l .all && eqb (getD a (l .i) 0) n) && same (drop (l .i + 1) a) (drop (l .i + 1) (take 208 b))) (sym (getD-take 208 b (l .i) 0 (omega arith))) ∙ same-turn a (take 208 b) (l .i) (l .all) (omega (arith, l .inv .1)) (omega (arith, w)) ∙ l .inv .2)
 
-returns-2 : tie.Need-returns-2 Inv-loop μ-loop
-returns-2 c =
+returns : tie.Need-returns Inv-loop μ-loop
+returns c =
     let b = now (c .before .before .args .b) in
+    let l = c .before .loop in
     let w = length-take-le 208 b (c .before .before .pre) in
-    same-end (c .before .before .args .t1) (take 208 b) (c .before .loop .i) (omega (arith, c .before .loop .inv .1)) (omega (arith, w)) ∙ c .before .loop .inv .2
+    same-past (c .before .before .args .t1) (take 208 b) (l .i) (l .all) (omega (arith, l .inv .1)) (omega (arith, w)) ∙ l .inv .2
 
 pub same-octets-spec : {M : Type 1} → statement M
 same-octets-spec =
@@ -58,10 +57,9 @@ same-octets-spec =
     Inv-loop
     μ-loop
     loop-holds
-    array-read-if1
-    shared-slice-read-if1
-    returns
+    array-read-all
+    shared-slice-read-all
     add-i
     loop-less
     loop-again
-    returns-2)
+    returns)
