@@ -2,7 +2,9 @@
 //! sides in turns. Buffers are not cleared between calls; the state is the same before each.
 //!
 //!     frames
+//!     frames counts    for bench/count.c: the names, and marks around the calls of either side
 
+mod counted;
 mod exported;
 
 use exported::*;
@@ -100,7 +102,14 @@ fn least(mut peer: impl FnMut(), mut our: impl FnMut()) -> (f64, f64) {
     (a, b)
 }
 
-fn line(name: &str, (peer, our): (f64, f64)) {
+fn line(name: &str, peer: impl FnMut(), our: impl FnMut()) {
+    if counted::wanted() {
+        counted::marked(peer);
+        counted::marked(our);
+        println!("{name}");
+        return;
+    }
+    let (peer, our) = least(peer, our);
     println!("{name:<64} {:>9.3} {:>9.3} {:>6.2}", peer / 1000.0, our / 1000.0, our / peer);
 }
 
@@ -113,7 +122,7 @@ fn measure(name: &str, s: &Station, f: &[u8]) {
     assert_eq!(counts, [o.records, o.replies, o.delivered], "{name}");
     assert_eq!(state, exported::octets(&left), "{name}");
     assert!(x.memory == y.memory && x.plan == y.plan && x.replies == y.replies && x.deliveries == y.deliveries, "{name}");
-    line(name, least(|| { black_box(theirs(s, f, &mut x)); }, || { black_box(ours(&octets, f, &mut y)); }));
+    line(name, || { black_box(theirs(s, f, &mut x)); }, || { black_box(ours(&octets, f, &mut y)); });
 }
 
 fn sdus(size: usize) -> Frame {
@@ -135,15 +144,18 @@ fn damage(rng: &mut Rng, payload: &mut [u8], step: usize) {
 fn main() {
     let mut rng = Rng(2);
     let s = operating();
-    println!("{:<64} {:>9} {:>9} {:>6}", "microseconds", "peer", "ours", "ratio");
+    if !counted::wanted() {
+        println!("{:<64} {:>9} {:>9} {:>6}", "microseconds", "peer", "ours", "ratio");
+    }
 
     let mut lost = s.clone();
     lost.activation = Activation::Intermittent(800);
     let octets = octets(&lost);
-    line("lost call", least(
+    line(
+        "lost call",
         || { let mut s = black_box(&lost).clone(); black_box(s.lost()); black_box(s); },
         || { let mut s = *black_box(&octets); unsafe { black_box(lingbarrow_lost(s.as_mut_ptr(), STATE)); } black_box(s); },
-    ));
+    );
     let mut unfit = s.clone();
     unfit.carried = 9720;
     measure("state out of range: its test alone", &unfit, &[0; 4]);

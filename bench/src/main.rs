@@ -2,7 +2,9 @@
 //!
 //!     bench check     compare results only
 //!     bench           compare, then print nanoseconds an operation and the ratio of ours to the peer's
+//!     bench counts    for bench/count.c: the names, and marks around the work of either side
 
+mod counted;
 mod headers;
 mod map;
 mod messages;
@@ -24,6 +26,12 @@ pub fn least(count: usize, mut work: impl FnMut()) -> f64 {
 
 /// One line of the report. Both sides take turns within one run.
 pub fn compare(name: &str, count: usize, peer: impl FnMut(), ours: impl FnMut()) {
+    if counted::wanted() {
+        counted::marked(peer);
+        counted::marked(ours);
+        println!("{name}");
+        return;
+    }
     let peer = least(count, peer);
     let ours = least(count, ours);
     println!("{name:<36} {peer:>9.2} {ours:>9.2} {:>7.2}", ours / peer);
@@ -49,7 +57,7 @@ impl Rng {
 
 fn main() {
     let check = std::env::args().nth(1).as_deref() == Some("check");
-    if !check {
+    if !check && !counted::wanted() {
         println!("{:<36} {:>9} {:>9} {:>7}", "ns an operation", "peer", "ours", "ratio");
     }
     headers::run(!check);
