@@ -22,10 +22,12 @@ x86_64_or_leave() {
     fi
 }
 
-# library NAME: target/staticlib/libNAME.a, proved and compiled unless it is newer than every source.
+# library NAME: target/staticlib/libNAME.a, compiled again only if what was proved has changed since.
 library() {
     local archive=target/staticlib/lib$1.a
-    if [ ! -f "$archive" ] || [ -n "$(find crates crates.txt -newer "$archive" -type f | head -n 1)" ]; then
+    rt check "$1" > /dev/null
+    if ! cmp -s "target/stamp/$1" "$archive.stamp"; then
         rt staticlib "$1" > /dev/null
+        cp "target/stamp/$1" "$archive.stamp"
     fi
 }
