@@ -78,6 +78,28 @@ effect-within p own port last n e = go (eqb n 0) (slotOf p own port) (slot-below
     go false (At i) h = within-slot p last n i (getD (p .waiting) i false) h
     go false Nowhere h = tt
 
+-- a port that delivers does not wait
+abbrev Clear : Ports → Effect → Type 0
+Clear p Nothing = Unit {0}
+Clear p (Discard slot waits) = Unit {0}
+Clear p (Deliver slot have) = getD (p .waiting) slot false ≡ false
+Clear p (Append slot have) = Unit {0}
+
+pub effect-clear : (p : Ports) (own port : PortId) (last : Bool) (n : ℕ) → Clear p (effectOf p own port last n)
+effect-clear p own port last n = go (eqb n 0) (slotOf p own port)
+  where
+    at : (i : ℕ) (waits : Bool) → getD (p .waiting) i false ≡ waits → (b l : Bool)
+        → Clear p (cond waits (Discard i (not l)) (cond b (Discard i (not l)) (cond l (Deliver i (getD (p .lengths) i 0)) (Append i (getD (p .lengths) i 0)))))
+    at i true e b l = tt
+    at i false e true l = tt
+    at i false e false true = e
+    at i false e false false = tt
+
+    go : (b : Bool) (q : Place) → Clear p (cond b Nothing (atPlace p last n q))
+    go true q = tt
+    go false (At i) = at i (getD (p .waiting) i false) refl (ltb slotBytes (getD (p .lengths) i 0 + n)) last
+    go false Nowhere = tt
+
 -- the sum of the partials
 pub total-set : (l : List ℕ) (i v : ℕ) → i < length l → total (set l i v) + getD l i 0 ≡ total l + v
 unfolding total

@@ -99,8 +99,8 @@ pub(crate) fn take_frame(
             bytes
         }
         Effect::Deliver(slot, have) => {
+            // A port that waits delivers nothing: that this one does not wait is so already.
             lengths[slot] = 0;
-            waiting[slot] = false;
             let from = slot * SLOT_BYTES;
             let to = from + have;
             deliver(deliveries, bytes, port, &memory[from..to], body);

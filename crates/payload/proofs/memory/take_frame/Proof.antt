@@ -2,20 +2,22 @@
 -- Assumes nothing.
 use denote.Ref.{now}
 use mathlib.Core.Path.{_≡_, refl, sym, ap, _∙_}
+use mathlib.Core.Bool.{Bool, false}
 use mathlib.Core.List.{List, _++_}
 use Prim.Native.Nat.{ℕ, _+_, _-_, _*_, _≤_, _<_}
 use native.Mathlib.Nat.{add-sub-cancel-left}
 use native.Mathlib.Omega.{arith}
 use borrow.Rule.Slice.PartMut.{putMid}
-use lib.ListN.{length, getD, take, drop, length-take, length-drop}
-use lib.Seq.{take-length}
+use lib.ListN.{length, getD, set, take, drop, length-take, length-drop}
+use lib.Seq.{take-length, set-getD}
+use Rattle.ids.specs.declared.PortId.{PortId}
 use Rattle.station.specs.declared.slots.Ports.{Ports}
 use Rattle.station.specs.Limits.{slots, slotBytes}
 use Rattle.payload.specs.Fragments.{after}
 use Rattle.payload.specs.Memory.{Receiver, put, delivery, partial, memoryAfter, deliveriesAfter, bytesAfter, taken}
 use Rattle.payload.specs.Bounds.{Within, total, Ready}
 use Rattle.payload.proofs.Put.{part-put}
-use Rattle.payload.proofs.Effects.{effect-within, one-of-total}
+use Rattle.payload.proofs.Effects.{effect-within, effect-clear, one-of-total}
 use Rattle.payload.proofs.Steps.{stepped}
 use borrow.Author.Needs.{needs}
 use Rattle.payload.proofs.memory.take_frame.Statement.{statement}
@@ -47,6 +49,18 @@ in-deliver c =
     rw (c .before .effect2 .given .1) at (within (c .before .before .before)) in
     (w .0, w .2, rw (w .1) (one-of-total (now (a .lengths)) (c .before .effect2 .given .0 .0)))
 
+-- it does not wait, and so that it does not wait is no change
+clear : (c : tie.After-known-told2) → let a = c .before .before .before .before .before .before .before .before .before .args in
+    now (a .waiting) ≡ set (now (a .waiting)) (c .before .effect2 .given .0 .0) false
+clear c =
+    let s = c .before .before .before .before .before .before .before .before .before in
+    let a = s .args in
+    let e = c .before .before .before in
+    let slot = c .before .effect2 .given .0 .0 in
+    let w : getD (now (a .waiting)) slot false ≡ false =
+    rw (sym (e .effect-in .ensures) ∙ c .before .effect2 .given .1) at (effect-clear (ports s) (a .own) (a .port) (a .last) (length (now (a .body)))) in
+    sym (ap (set (now (a .waiting)) slot) (sym w) ∙ set-getD (now (a .waiting)) slot false)
+
 in-append : (c : tie.After-known-told3) → let a = c .before .before .before .before .before .before .before .before .before .args in
     (c .before .effect3 .given .0 .0 < slots) × (c .before .effect3 .given .0 .1 .0 + length (now (a .body)) ≤ slotBytes)
 in-append c =
@@ -63,6 +77,9 @@ done-is c p b m d ep eb em ed =
     let s = c .before .before .before .before .before .before in
     let a = s .args in
     stepped (a .own) (record { ports = ports s; bytes = a .bytes; memory = now (a .memory); deliveries = now (a .deliveries) }) (a .port) (a .last) (now (a .body)) (c .effect-in .result) p b m d (c .effect-in .ensures) ep eb em ed
+
+abbrev cleared : List PortId → List ℕ → ℕ → List Bool → Ports
+cleared ids lengths slot waiting = record { ids = ids; lengths = set lengths slot 0; waiting = waiting }
 
 enum-told : tie.Need-enum-told
 enum-told c = search needs
@@ -87,9 +104,6 @@ mul-lengths-2 c = omega (arith, in-deliver c)
 
 element-write-lengths-2 : tie.Need-element-write-lengths-2
 element-write-lengths-2 c = in-deliver c .0
-
-element-write-waiting-2 : tie.Need-element-write-waiting-2
-element-write-waiting-2 c = in-deliver c .0
 
 mul-from : tie.Need-mul-from
 mul-from c = omega (arith, in-deliver c)
@@ -188,7 +202,8 @@ returns-3 c =
     let g = k .before .effect2 .given .1 in
     let slot = k .before .effect2 .given .0 .0 in
     let have = k .before .effect2 .given .0 .1 .0 in
-    done-is (c .before .before .before .before .before .before .before .before .before) _ _ _ _ (rw g) (rw g) (rw g)
+    done-is (c .before .before .before .before .before .before .before .before .before) _ _ _ _
+    (rw g (ap (cleared (a .ids) (now (a .lengths)) slot) (clear k))) (rw g) (rw g)
     (rw g
     (c .before .before .deliver .ensures
     ∙ ap (λ (z : ℕ). put (now (a .deliveries)) (a .bytes) (delivery (a .port) (take z (drop (slot * slotBytes) (now (a .memory))) ++ now (a .body)))) (add-sub-cancel-left (slot * slotBytes) have)))
@@ -225,7 +240,6 @@ take-frame-spec =
     enum-known-effect-2
     mul-lengths-2
     element-write-lengths-2
-    element-write-waiting-2
     mul-from
     add-to
     sub-deliver
