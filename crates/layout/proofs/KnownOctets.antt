@@ -18,6 +18,7 @@ use Rattle.station.specs.declared.Activation.the-variants.{Initial, SerialNumbe
 use Rattle.station.specs.States.{stateNumber}
 use Rattle.layout.specs.Rows.{part, each, many}
 use Rattle.layout.specs.Layout.{stateBytes, timeLeft, activationBy, activationOf, activationOctets, allocOf, allocOctets, allocsOf, allocsOctets, markOf, markNumber, markOctets, keyOf, keyOctets, responseNumber, responseBy, owedOf, owedOctets, queueOf, queueOctets, linkOf, linkOctets, portOf, portOctets, lengthOctets, portsOf, portsOctets, encoded, shown}
+use Rattle.layout.proofs.Refused.{part-length}
 use Rattle.layout.specs.KnownOctets.{activationKnown, markKnown, answerKnown, eachKnown, octetsKnown}
 
 -- ---- octets
@@ -43,9 +44,6 @@ octets-drop o b h k = rw (getD-drop o b k 0) (h (o + k))
 
 number-self : (n : ℕ) (x : List ℕ) → length x ≡ n → Octets x → octets n (value x) ≡ x
 number-self n x e h = ap (λ (m : ℕ). octets m (value x)) (sym e) ∙ octets-value x (bytes x h)
-
-part-length : (o w : ℕ) (b : List ℕ) → o + w ≤ length b → length (part o w b) ≡ w
-part-length o w b h = simp (length-take, length-drop) (omega arith)
 
 part-take : (o w v : ℕ) (l : List ℕ) → o + w ≤ v → take w (drop o (take v l)) ≡ take w (drop o l)
 part-take zero w v l h = take-take w v l (omega arith)
