@@ -2,17 +2,14 @@
 -- Assumes nothing.
 use mathlib.Core.Path.{_≡_, refl, sym, ap, ap₂, _∙_}
 use mathlib.Core.List.{List, [], _∷_, _++_, append-nil}
-use mathlib.Core.Bool.{Bool, _&&_, and-assoc, and-true}
 use Prim.Native.Nat.{ℕ, zero, suc, _+_, _-_, _*_, _%_, _^_, _≤_, _<_}
-use lib.Dec.{lit<, eqb}
+use lib.Dec.{lit<}
 use native.Mathlib.Numerals.{add-one}
 use native.Mathlib.Nat.{zero-add}
 use native.Mathlib.Omega.{arith}
 use lib.ListN.{length, getD, take, drop, set, length-append, length-drop, drop-of-length-le}
 use lib.Seq.{sets, sets-eq, take-all, drop-cons, drop-drop}
 use Rattle.framing.specs.Octets.{value, octets}
-use Rattle.ploam.specs.Integrity.{same}
-use Rattle.ploam.proofs.Same.{same-end}
 use Rattle.station.specs.declared.held.Completion.{Completion}
 use Rattle.station.specs.declared.held.Completion.the-variants.{Ok, NoMessage, UnknownMessageType, ParameterError, ProcessingError}
 use Rattle.station.specs.Held.{completionCode}
@@ -94,20 +91,6 @@ module _ {A : Type 0} (octetsOf : A → List ℕ) where
     each-two at hi lo q e =
         let g : 2 * (i + 1) ≡ suc (suc (2 * i)) = omega arith in
         rw (drop-cons l i d h, e, g, add-one at, q, add-one i)
-
--- ---- octets compared from i on
-
-module _ (xs ys : List ℕ) (i : ℕ) (all : Bool) where
-  pub same-turn
-      : i < length xs → i < length ys
-      → ((all && eqb (getD xs i 0) (getD ys i 0)) && same (drop (i + 1) xs) (drop (i + 1) ys)) ≡ (all && same (drop i xs) (drop i ys))
-  unfolding same
-  same-turn h k =
-      rw (add-one i, drop-cons xs i 0 h, drop-cons ys i 0 k)
-      (and-assoc all (eqb (getD xs i 0) (getD ys i 0)) (same (drop (suc i) xs) (drop (suc i) ys)))
-
-  pub same-past : length xs ≤ i → length ys ≤ i → all ≡ (all && same (drop i xs) (drop i ys))
-  same-past h k = sym (and-true all) ∙ ap (λ (t : Bool). all && t) (same-end xs ys i h k)
 
 -- ---- fields laid down one behind the other
 

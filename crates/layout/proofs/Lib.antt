@@ -3,3 +3,4 @@ pub mod Answers
 pub mod Fields
 pub mod RoundTrips
 pub mod Refused
+pub mod KnownOctets

@@ -18,7 +18,7 @@ use Rattle.layout.proofs.Laws.{many-length}
 use Rattle.layout.proofs.Fields.{front, back}
 use Rattle.layout.proofs.RoundTrips.{i4, i5, a2, encoded-length, read-written, room-read, read-shown}
 
-part-length : (o w : ℕ) (b : List ℕ) → o + w ≤ length b → length (part o w b) ≡ w
+pub part-length : (o w : ℕ) (b : List ℕ) → o + w ≤ length b → length (part o w b) ≡ w
 part-length o w b h = simp (length-take, length-drop) (omega arith)
 
 shown-sized : (b : List ℕ) → stateBytes ≤ length b → Sized (shown b)

@@ -1,3 +1,4 @@
 pub mod Rows
 pub mod Layout
+pub mod KnownOctets
 pub mod Typed

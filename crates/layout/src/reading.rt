@@ -1,4 +1,4 @@
-// The state that octets show. What they show need not have these octets: that is tested afterwards, for all of them at once.
+// The state that octets show. What they show need not have these octets: `known` tests that.
 ghost use mathlib.Core.Path.{_≡_};
 ghost use Prim.Native.Nat.{_≤_};
 ghost use lib.ListN.{length};
@@ -21,7 +21,7 @@ use station::held::Queue;
 use station::held::Response;
 use station::slots::Ports;
 
-fn activation_by(number: u8, left: u32) -> Activation
+pub(crate) fn activation_by(number: u8, left: u32) -> Activation
     ensures { λ r. ⌜ r ≡ activationBy number left ⌝ }
 {
     if number == 2 {

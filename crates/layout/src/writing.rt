@@ -19,7 +19,7 @@ use station::held::Queue;
 use station::held::Response;
 use station::slots::Ports;
 
-fn time_left(a: Activation) -> u32
+pub(crate) fn time_left(a: Activation) -> u32
     ensures { λ r. ⌜ r ≡ timeLeft a ⌝ }
 {
     match a {

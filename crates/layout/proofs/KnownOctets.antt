@@ -1,0 +1,361 @@
+-- Octets are those of the state that they show where the few that can be no state's are known.
+-- Assumes nothing.
+use mathlib.Core.Path.{_≡_, refl, sym, ap, ap₂, subst, _∙_}
+use mathlib.Core.Bool.{Bool, true, false, _&&_, not, cond, and-assoc, and-true}
+use mathlib.Core.List.{List, [], _∷_, _++_}
+use Prim.Native.Nat.{ℕ, zero, suc, _+_, _-_, _*_, _^_, _≤_, _<_}
+use native.Mathlib.Omega.{arith}
+use lib.Dec.{eqb, leb, ltb, lit<}
+use lib.ListN.{length, getD, take, drop, length-append, length-take, length-drop, take-append-drop, List·getD-eq-default}
+use lib.Seq.{take-all, take-take, take-add, drop-drop, getD-take, getD-drop, length-take-le}
+use borrow.Author.Tests.{ltb-true, ltb-false, eqb-true, eqb-false, eq-eqb, ne-eqb, le-leb, lt-leb}
+use Rattle.framing.specs.Octets.{value, octets}
+use Rattle.framing.proofs.Numbers.{Bytes, octets-value, octets-length, value-octets, value-lt}
+use Rattle.ploam.specs.Integrity.{same}
+use Rattle.ploam.proofs.Same.{same-refl, same-equal}
+use Rattle.station.specs.declared.Activation.{Activation}
+use Rattle.station.specs.declared.Activation.the-variants.{Initial, SerialNumber, Ranging, Operation, Intermittent, EmergencyStop}
+use Rattle.station.specs.States.{stateNumber}
+use Rattle.layout.specs.Rows.{part, each, many}
+use Rattle.layout.specs.Layout.{stateBytes, timeLeft, activationBy, activationOf, activationOctets, allocOf, allocOctets, allocsOf, allocsOctets, markOf, markNumber, markOctets, keyOf, keyOctets, responseNumber, responseBy, owedOf, owedOctets, queueOf, queueOctets, linkOf, linkOctets, portOf, portOctets, lengthOctets, portsOf, portsOctets, encoded, shown}
+use Rattle.layout.proofs.Refused.{part-length}
+use Rattle.layout.specs.KnownOctets.{activationKnown, markKnown, answerKnown, eachKnown, octetsKnown}
+
+-- ---- octets
+
+abbrev pub Octets : List ℕ → Type 0
+Octets b = (k : ℕ) → getD b k 0 < 256
+
+bytes : (b : List ℕ) → Octets b → Bytes b
+bytes [] h = tt
+bytes (x ∷ b) h = (h 0, bytes b (λ k. h (suc k)))
+
+octets-part : (o w : ℕ) (b : List ℕ) → Octets b → Octets (part o w b)
+octets-part o w b h k = go (ltb k w) refl
+  where
+    go : (t : Bool) → ltb k w ≡ t → getD (part o w b) k 0 < 256
+    go true e = rw (getD-take w (drop o b) k 0 (ltb-true k w e), getD-drop o b k 0) (h (o + k))
+    go false e =
+        let n : length (part o w b) ≤ k = simp length-take (omega (arith, ltb-false k w e)) in
+        rw (List·getD-eq-default (part o w b) 0 n) (lit< tt)
+
+octets-drop : (o : ℕ) (b : List ℕ) → Octets b → Octets (drop o b)
+octets-drop o b h k = rw (getD-drop o b k 0) (h (o + k))
+
+number-self : (n : ℕ) (x : List ℕ) → length x ≡ n → Octets x → octets n (value x) ≡ x
+number-self n x e h = ap (λ (m : ℕ). octets m (value x)) (sym e) ∙ octets-value x (bytes x h)
+
+part-take : (o w v : ℕ) (l : List ℕ) → o + w ≤ v → take w (drop o (take v l)) ≡ take w (drop o l)
+part-take zero w v l h = take-take w v l (omega arith)
+part-take (suc o) w zero l h = absurd (omega arith)
+part-take (suc o) w (suc v) [] h = refl
+part-take (suc o) w (suc v) (x ∷ l) h = part-take o w v l (omega arith)
+
+part-part : (o w p v : ℕ) (b : List ℕ) → o + w ≤ v → part o w (part p v b) ≡ part (p + o) w b
+part-part o w p v b h = part-take o w v (drop p b) h ∙ ap (take w) (drop-drop o p b)
+
+part-first : (o w : ℕ) (b : List ℕ) → 0 < w → getD (part o w b) 0 0 ≡ getD b (o + 0) 0
+part-first o w b h = getD-take w (drop o b) 0 0 h ∙ getD-drop o b 0 0
+
+-- ---- as long, and the same where a test says so
+
+abbrev Like : List ℕ → List ℕ → Bool → Type 0
+Like a x p = (length a ≡ length x) × (same a x ≡ p)
+
+like : (a x : List ℕ) → a ≡ x → Like a x true
+like a x e = (ap length e, ap (λ (l : List ℕ). same l x) e ∙ same-refl x)
+
+same-append : (a x c y : List ℕ) → length a ≡ length x → same (a ++ c) (x ++ y) ≡ (same a x && same c y)
+unfolding same
+same-append [] [] c y e = refl
+same-append [] (z ∷ x) c y e = absurd (omega arith)
+same-append (z ∷ a) [] c y e = absurd (omega arith)
+same-append (z ∷ a) (w ∷ x) c y e =
+    ap (λ (t : Bool). eqb z w && t) (same-append a x c y (omega arith)) ∙ sym (and-assoc (eqb z w) (same a x) (same c y))
+
+joint : (a x c y : List ℕ) (p q : Bool) → Like a x p → Like c y q → Like (a ++ c) (x ++ y) (p && q)
+joint a x c y p q (l, s) (m, t) =
+    (length-append a c ∙ ap₂ _+_ l m ∙ sym (length-append x y), same-append a x c y l ∙ ap₂ _&&_ s t)
+
+at : (a x z : List ℕ) (p q : Bool) → Like a x p → x ≡ z → p ≡ q → Like a z q
+at a x z p q (l, s) e f = (l ∙ ap length e, ap (same a) (sym e) ∙ s ∙ f)
+
+grow : (n m : ℕ) (x c : List ℕ) → x ≡ take n c → x ++ part n m c ≡ take (n + m) c
+grow n m x c e = ap (λ (l : List ℕ). l ++ part n m c) e ∙ sym (take-add n m c)
+
+number-like : (n : ℕ) (x : List ℕ) → length x ≡ n → Octets x → Like (octets n (value x)) x true
+number-like n x e h = like (octets n (value x)) x (number-self n x e h)
+
+-- ---- one after another
+
+module _ {A : Type 0} (of : List ℕ → A) (octetsOf : A → List ℕ) (w : ℕ) (f : ℕ → Bool) (some : 0 < w)
+    (one : (x : List ℕ) → length x ≡ w → Octets x → Like (octetsOf (of x)) x (f (getD x 0 0))) where
+  each-like : (n : ℕ) (c : List ℕ) → length c ≡ w * n → Octets c → Like (each octetsOf (many of w n c)) c (eachKnown f w n c)
+  unfolding same
+  each-like zero [] e h = (refl, refl)
+  each-like zero (x ∷ c) e h = absurd (omega arith)
+  each-like (suc n) c e h =
+      let g : w * suc n ≡ w * n + w = omega arith in
+      let m : length (drop w c) ≡ w * n = simp length-drop (omega arith) in
+      at (octetsOf (of (take w c)) ++ each octetsOf (many of w n (drop w c))) (take w c ++ drop w c) c (f (getD (take w c) 0 0) && eachKnown f w n (drop w c)) (f (getD c 0 0) && eachKnown f w n (drop w c))
+      (joint (octetsOf (of (take w c))) (take w c) (each octetsOf (many of w n (drop w c))) (drop w c) (f (getD (take w c) 0 0)) (eachKnown f w n (drop w c)) (one (take w c) (length-take-le w c (omega arith)) (octets-part 0 w c h)) (each-like n (drop w c) m (octets-drop w c h)))
+      (take-append-drop w c)
+      (ap (λ (k : ℕ). f k && eachKnown f w n (drop w c)) (getD-take w c 0 0 some))
+
+abbrev any : ℕ → Bool
+any n = true
+
+any-known : (w n : ℕ) (c : List ℕ) → eachKnown any w n c ≡ true
+any-known w zero c = refl
+any-known w (suc n) c = any-known w n (drop w c)
+
+-- ---- the fields
+
+value-one : (n : ℕ) → value (n ∷ []) ≡ n
+value-one n = omega arith
+
+eqb-sym : (a b : ℕ) → eqb a b ≡ eqb b a
+eqb-sym a b = go (eqb a b) refl
+  where
+    go : (t : Bool) → eqb a b ≡ t → t ≡ eqb b a
+    go true e = sym (eq-eqb b a (sym (eqb-true a b e)))
+    go false e = sym (ne-eqb b a (λ q. eqb-false a b e (sym q)))
+
+mark-number : (n : ℕ) → eqb (markNumber (eqb n 1)) n ≡ markKnown n
+mark-number n = go (eqb n 1) (eqb 0 n) refl refl
+  where
+    go : (s t : Bool) → eqb n 1 ≡ s → eqb 0 n ≡ t → eqb (markNumber s) n ≡ leb n 1
+    go true t e f = let q = eqb-true n 1 e in eq-eqb 1 n (omega arith) ∙ sym (le-leb n 1 (omega arith))
+    go false true e f = let q = eqb-true 0 n f in f ∙ sym (le-leb n 1 (omega arith))
+    go false false e f = f ∙ sym (lt-leb n 1 (omega (arith, eqb-false n 1 e, eqb-false 0 n f)))
+
+mark-like : (x : List ℕ) → length x ≡ 1 → Octets x → Like (markOctets (markOf x)) x (markKnown (getD x 0 0))
+unfolding same
+mark-like [] e h = absurd (omega arith)
+mark-like (n ∷ []) e h =
+    (refl, and-true (eqb (markNumber (eqb (value (n ∷ [])) 1)) n) ∙ ap (λ (k : ℕ). eqb (markNumber (eqb k 1)) n) (value-one n) ∙ mark-number n)
+mark-like (n ∷ (m ∷ x)) e h = absurd (omega arith)
+
+above-three : (n : ℕ) → (n ≡ 0 → ⊥) → (n ≡ 1 → ⊥) → (n ≡ 2 → ⊥) → (n ≡ 3 → ⊥) → 3 < n
+above-three n h0 h1 h2 h3 = omega arith
+
+above-six : (n : ℕ) → 3 < n → (n ≡ 4 → ⊥) → (n ≡ 5 → ⊥) → (n ≡ 6 → ⊥) → 6 < n
+above-six n h h4 h5 h6 = omega arith
+
+-- a number is k, or it is not
+either : (P : ℕ → Type 0) (n k : ℕ) → P k → ((n ≡ k → ⊥) → P n) → P n
+either P n k p q = go (eqb n k) refl
+  where
+    go : (t : Bool) → eqb n k ≡ t → P n
+    go true e = subst P (sym (eqb-true n k e)) p
+    go false e = q (eqb-false n k e)
+
+answer-number : (n : ℕ) → eqb (responseNumber (responseBy n)) n ≡ answerKnown n
+answer-number n =
+    either P n 0 refl (λ h0. either P n 1 refl (λ h1. either P n 2 refl (λ h2. either P n 3 refl (λ h3.
+    either P n 4 refl (λ h4. either P n 5 refl (λ h5. either P n 6 refl (λ h6.
+    rw (ne-eqb n 1 h1, ne-eqb n 2 h2, ne-eqb n 4 h4, ne-eqb n 5 h5, ne-eqb n 6 h6, ne-eqb 0 n (λ e. h0 (sym e)), lt-leb n 6 (above-six n (above-three n h0 h1 h2 h3) h4 h5 h6)))))))))
+  where
+    P : ℕ → Type 0
+    P k = eqb (responseNumber (responseBy k)) k ≡ (leb k 6 && not (eqb k 3))
+
+answer-like : (x : List ℕ) → length x ≡ 2 → Octets x → Like (owedOctets (owedOf x)) x (answerKnown (getD x 0 0))
+unfolding same
+answer-like [] e h = absurd (omega arith)
+answer-like (n ∷ []) e h = absurd (omega arith)
+answer-like (n ∷ (m ∷ [])) e h = (
+  refl,
+  ap₂ (λ (j k : ℕ). eqb (responseNumber (responseBy j)) n && (eqb k m && true)) (value-one n) (value-one m)
+      ∙ ap (λ (t : Bool). eqb (responseNumber (responseBy n)) n && (t && true)) (eq-eqb m m refl)
+      ∙ and-true (eqb (responseNumber (responseBy n)) n) ∙ answer-number n,
+)
+answer-like (n ∷ (m ∷ (k ∷ x))) e h = absurd (omega arith)
+
+-- the time that is read is that of the state or none
+left-lt : (n l : ℕ) → l < 256 ^ 4 → timeLeft (activationBy n l) < 256 ^ 4
+left-lt n l h = go (eqb n 2) (eqb n 4) (eqb n 5) (eqb n 6) (eqb n 7)
+  where
+    go : (a b c d e : Bool) → timeLeft (cond a SerialNumber (cond b (Ranging l) (cond c Operation (cond d (Intermittent l) (cond e EmergencyStop Initial))))) < 256 ^ 4
+    go true b c d e = lit< tt
+    go false true c d e = h
+    go false false true d e = lit< tt
+    go false false false true e = h
+    go false false false false true = lit< tt
+    go false false false false false = lit< tt
+
+state-lt : (a : Activation) → stateNumber a < 256 ^ 1
+state-lt Initial = lit< tt
+state-lt SerialNumber = lit< tt
+state-lt (Ranging left) = lit< tt
+state-lt Operation = lit< tt
+state-lt (Intermittent left) = lit< tt
+state-lt EmergencyStop = lit< tt
+
+ap-lt : {v n m : ℕ} → v < 256 ^ n → n ≡ m → v < 256 ^ m
+ap-lt {v} h e = subst (λ (k : ℕ). v < 256 ^ k) e h
+
+-- the octets of a number are those of another where the numbers are equal
+value-like : (n v : ℕ) (x : List ℕ) → v < 256 ^ n → length x ≡ n → Octets x → Like (octets n v) x (eqb v (value x))
+value-like n v x h e o = go (eqb v (value x)) refl
+  where
+    go : (t : Bool) → eqb v (value x) ≡ t → Like (octets n v) x t
+    go true q = like (octets n v) x (ap (octets n) (eqb-true v (value x) q) ∙ number-self n x e o)
+    go false q =
+        (octets-length n v ∙ sym e, differ (same (octets n v) x) refl (λ r. eqb-false v (value x) q (sym (value-octets n v h) ∙ ap value (same-equal (octets n v) x r))))
+      where
+        differ : (t : Bool) → same (octets n v) x ≡ t → (same (octets n v) x ≡ true → ⊥) → same (octets n v) x ≡ false
+        differ true r k = absurd (k r)
+        differ false r k = r
+
+activation-like : (c : List ℕ) → length c ≡ 5 → Octets c → Like (activationOctets (activationOf c)) c (activationKnown c)
+unfolding activationOf activationKnown
+activation-like c e h =
+    let a : Activation = activationBy (value (part 0 1 c)) (value (part 1 4 c)) in
+    let w : length (part 1 4 c) ≡ 4 = part-length 1 4 c (omega arith) in
+    let o : Octets (part 1 4 c) = octets-part 1 4 c h in
+    let v : value (part 1 4 c) < 256 ^ 4 = ap-lt (value-lt (part 1 4 c) (bytes (part 1 4 c) o)) w in
+    at (octets 1 (stateNumber a) ++ octets 4 (timeLeft a)) (take 1 c ++ part 1 4 c) c _ _
+    (joint (octets 1 (stateNumber a)) (take 1 c) (octets 4 (timeLeft a)) (part 1 4 c) _ _ (value-like 1 (stateNumber a) (take 1 c) (state-lt a) (part-length 0 1 c (omega arith)) (octets-part 0 1 c h)) (value-like 4 (timeLeft a) (part 1 4 c) (left-lt (value (part 0 1 c)) (value (part 1 4 c)) v) w o))
+    (grow 1 4 (take 1 c) c refl ∙ take-all 5 c (omega arith))
+    refl
+
+alloc-like : (x : List ℕ) → length x ≡ 2 → Octets x → Like (allocOctets (allocOf x)) x true
+alloc-like x e h = number-like 2 x e h
+
+port-like : (x : List ℕ) → length x ≡ 2 → Octets x → Like (portOctets (portOf x)) x true
+port-like x e h = number-like 2 x e h
+
+length-like : (x : List ℕ) → length x ≡ 2 → Octets x → Like (lengthOctets (value x)) x true
+length-like x e h = number-like 2 x e h
+
+-- a field that has all its numbers
+numbers-like
+    : {A : Type 0} (of : List ℕ → A) (octetsOf : A → List ℕ) (w n : ℕ) → 0 < w
+    → ((x : List ℕ) → length x ≡ w → Octets x → Like (octetsOf (of x)) x true) → (c : List ℕ) → length c ≡ w * n → Octets c
+    → Like (each octetsOf (many of w n c)) c true
+numbers-like of octetsOf w n p one c e h =
+    let (l, s) = each-like of octetsOf w any p one n c e h in (l, s ∙ any-known w n c)
+
+allocs-like : (c : List ℕ) → length c ≡ 33 → Octets c → Like (allocsOctets (allocsOf c)) c true
+unfolding allocsOf
+allocs-like c e h =
+    at (octets 1 (value (take 1 c)) ++ each allocOctets (many allocOf 2 16 (part 1 32 c))) (take 1 c ++ part 1 32 c) c true true
+    (joint (octets 1 (value (take 1 c))) (take 1 c) (each allocOctets (many allocOf 2 16 (part 1 32 c))) (part 1 32 c) true true (number-like 1 (take 1 c) (part-length 0 1 c (omega arith)) (octets-part 0 1 c h)) (numbers-like allocOf allocOctets 2 16 (lit< tt) alloc-like (part 1 32 c) (part-length 1 32 c (omega arith)) (octets-part 1 32 c h)))
+    (grow 1 32 (take 1 c) c refl ∙ take-all 33 c (omega arith))
+    refl
+
+mark-octet : (t : Bool) → octets 1 (markNumber t) ≡ markOctets t
+mark-octet true = refl
+mark-octet false = refl
+
+key-like : (c : List ℕ) → length c ≡ 17 → Octets c → Like (keyOctets (keyOf c)) c (markKnown (getD c 0 0))
+unfolding keyOf
+key-like c e h =
+    let k : Bool = markOf (take 1 c) in
+    let (l, s) = mark-like (take 1 c) (part-length 0 1 c (omega arith)) (octets-part 0 1 c h) in
+    at (octets 1 (markNumber k) ++ part 1 16 c) (take 1 c ++ part 1 16 c) c (markKnown (getD (take 1 c) 0 0) && true) (markKnown (getD c 0 0))
+    (joint (octets 1 (markNumber k)) (take 1 c) (part 1 16 c) (part 1 16 c) (markKnown (getD (take 1 c) 0 0)) true (ap length (mark-octet k) ∙ l, ap (λ (x : List ℕ). same x (take 1 c)) (mark-octet k) ∙ s) (like (part 1 16 c) (part 1 16 c) refl))
+    (grow 1 16 (take 1 c) c refl ∙ take-all 17 c (omega arith))
+    (and-true (markKnown (getD (take 1 c) 0 0)) ∙ ap markKnown (getD-take 1 c 0 0 (lit< tt)))
+
+queue-like : (c : List ℕ) → length c ≡ 17 → Octets c → Like (queueOctets (queueOf c)) c (eachKnown answerKnown 2 8 (part 1 16 c))
+unfolding queueOf
+queue-like c e h =
+    at (octets 1 (value (take 1 c)) ++ each owedOctets (many owedOf 2 8 (part 1 16 c))) (take 1 c ++ part 1 16 c) c (eachKnown answerKnown 2 8 (part 1 16 c)) (eachKnown answerKnown 2 8 (part 1 16 c))
+    (joint (octets 1 (value (take 1 c))) (take 1 c) (each owedOctets (many owedOf 2 8 (part 1 16 c))) (part 1 16 c) true (eachKnown answerKnown 2 8 (part 1 16 c)) (number-like 1 (take 1 c) (part-length 0 1 c (omega arith)) (octets-part 0 1 c h)) (each-like owedOf owedOctets 2 answerKnown (lit< tt) answer-like 8 (part 1 16 c) (part-length 1 16 c (omega arith)) (octets-part 1 16 c h)))
+    (grow 1 16 (take 1 c) c refl ∙ take-all 17 c (omega arith))
+    refl
+
+link-like : (c : List ℕ) → length c ≡ 73 → Octets c
+    → Like (linkOctets (linkOf c)) c (markKnown (getD (part 39 17 c) 0 0) && eachKnown answerKnown 2 8 (part 1 16 (part 56 17 c)))
+unfolding linkOf
+link-like c e h =
+    at (linkOctets (linkOf c)) ((((take 2 c ++ part 2 33 c) ++ part 35 4 c) ++ part 39 17 c) ++ part 56 17 c) c _ _
+    (joint _ (((take 2 c ++ part 2 33 c) ++ part 35 4 c) ++ part 39 17 c) _ (part 56 17 c) _ _
+    (joint _ ((take 2 c ++ part 2 33 c) ++ part 35 4 c) _ (part 39 17 c) true _
+    (joint _ (take 2 c ++ part 2 33 c) _ (part 35 4 c) true true
+    (joint _ (take 2 c) _ (part 2 33 c) true true (number-like 2 (take 2 c) (part-length 0 2 c (omega arith)) (octets-part 0 2 c h)) (allocs-like (part 2 33 c) (part-length 2 33 c (omega arith)) (octets-part 2 33 c h)))
+    (number-like 4 (part 35 4 c) (part-length 35 4 c (omega arith)) (octets-part 35 4 c h)))
+    (key-like (part 39 17 c) (part-length 39 17 c (omega arith)) (octets-part 39 17 c h)))
+    (queue-like (part 56 17 c) (part-length 56 17 c (omega arith)) (octets-part 56 17 c h)))
+    (grow 56 17 _ c (grow 39 17 _ c (grow 35 4 _ c (grow 2 33 _ c refl))) ∙ take-all 73 c (omega arith))
+    refl
+
+ports-like : (c : List ℕ) → length c ≡ 83 → Octets c → Like (portsOctets (portsOf c)) c (eachKnown markKnown 1 17 (part 66 17 c))
+unfolding portsOf
+ports-like c e h =
+    at (portsOctets (portsOf c)) ((take 32 c ++ part 32 34 c) ++ part 66 17 c) c _ _
+    (joint _ (take 32 c ++ part 32 34 c) _ (part 66 17 c) true _
+    (joint _ (take 32 c) _ (part 32 34 c) true true (numbers-like portOf portOctets 2 16 (lit< tt) port-like (take 32 c) (part-length 0 32 c (omega arith)) (octets-part 0 32 c h)) (numbers-like value lengthOctets 2 17 (lit< tt) length-like (part 32 34 c) (part-length 32 34 c (omega arith)) (octets-part 32 34 c h)))
+    (each-like markOf markOctets 1 markKnown (lit< tt) mark-like 17 (part 66 17 c) (part-length 66 17 c (omega arith)) (octets-part 66 17 c h)))
+    (grow 66 17 _ c (grow 32 34 _ c refl) ∙ take-all 83 c (omega arith))
+    refl
+
+reserved-like : (x : List ℕ) → length x ≡ 1 → Like (octets 1 0) x (eqb (getD x 0 0) 0)
+unfolding same
+reserved-like [] e = absurd (omega arith)
+reserved-like (n ∷ []) e = (refl, and-true (eqb 0 n) ∙ eqb-sym 0 n)
+reserved-like (n ∷ (m ∷ x)) e = absurd (omega arith)
+
+-- ---- the state
+
+in-order : (a m w p r : Bool) → (((((a && true) && true) && (m && w)) && p) && r) ≡ (a && (m && (w && (p && r))))
+in-order true true true p r = refl
+in-order true true false p r = refl
+in-order true false w p r = refl
+in-order false m w p r = refl
+
+pub octets-known : (b : List ℕ) → stateBytes ≤ length b → Octets b → same (encoded (shown b)) (take stateBytes b) ≡ octetsKnown b
+unfolding encoded shown
+octets-known b r h =
+    let l : List ℕ = part 49 73 b in
+    let p : List ℕ = part 122 83 b in
+    let k : getD (part 39 17 l) 0 0 ≡ getD b 88 0 = ap (λ (x : List ℕ). getD x 0 0) (part-part 39 17 49 73 b (omega arith)) ∙ part-first 88 17 b (lit< tt) in
+    let w : part 1 16 (part 56 17 l) ≡ part 106 16 b = part-part 1 16 56 17 l (omega arith) ∙ part-part 57 16 49 73 b (omega arith) in
+    let m : part 66 17 p ≡ part 188 17 b = part-part 66 17 122 83 b (omega arith) in
+    let z : getD (part 207 1 b) 0 0 ≡ getD b 207 0 = part-first 207 1 b (lit< tt) in
+    let last : part 205 2 b ++ part 207 1 b ≡ part 205 3 b = ap (λ (x : List ℕ). part 205 2 b ++ take 1 x) (sym (drop-drop 2 205 b)) ∙ sym (take-add 2 1 (drop 205 b)) in
+    let q =
+    joint _ (((take 5 b ++ part 5 8 b) ++ part 13 36 b) ++ l ++ p) _ (part 205 2 b ++ part 207 1 b) _ _
+    (joint _ (((take 5 b ++ part 5 8 b) ++ part 13 36 b) ++ l) _ p _ _
+    (joint _ ((take 5 b ++ part 5 8 b) ++ part 13 36 b) _ l _ _
+    (joint _ (take 5 b ++ part 5 8 b) _ (part 13 36 b) _ true
+    (joint _ (take 5 b) _ (part 5 8 b) _ true (activation-like (take 5 b) (part-length 0 5 b (omega arith)) (octets-part 0 5 b h)) (like (part 5 8 b) (part 5 8 b) refl))
+    (like (part 13 36 b) (part 13 36 b) refl))
+    (link-like l (part-length 49 73 b (omega arith)) (octets-part 49 73 b h)))
+    (ports-like p (part-length 122 83 b (omega arith)) (octets-part 122 83 b h)))
+    (joint _ (part 205 2 b) _ (part 207 1 b) true _ (number-like 2 (part 205 2 b) (part-length 205 2 b (omega arith)) (octets-part 205 2 b h)) (reserved-like (part 207 1 b) (part-length 207 1 b (omega arith))))
+    in
+    let cut =
+    ap (λ (x : List ℕ). (((take 5 b ++ part 5 8 b) ++ part 13 36 b) ++ l ++ p) ++ x) last
+    ∙ grow 205 3 _ b (grow 122 83 _ b (grow 49 73 _ b (grow 13 36 _ b (grow 5 8 _ b refl)))) in
+    ap (same (encoded (shown b))) (sym cut) ∙ q .1
+    ∙ in-order (activationKnown (take 5 b)) (markKnown (getD (part 39 17 l) 0 0)) (eachKnown answerKnown 2 8 (part 1 16 (part 56 17 l))) (eachKnown markKnown 1 17 (part 66 17 p)) (eqb (getD (part 207 1 b) 0 0) 0)
+    ∙ ap₂ (λ (x : ℕ) (y : List ℕ). activationKnown (take 5 b) && (markKnown x && (eachKnown answerKnown 2 8 y && (eachKnown markKnown 1 17 (part 66 17 p) && eqb (getD (part 207 1 b) 0 0) 0)))) k w
+    ∙ ap₂ (λ (y : List ℕ) (x : ℕ). activationKnown (take 5 b) && (markKnown (getD b 88 0) && (eachKnown answerKnown 2 8 (part 106 16 b) && (eachKnown markKnown 1 17 y && eqb x 0)))) m z
+
+-- ---- tests of octets, one turn at a time
+
+module _ (f : ℕ → Bool) (w n i : ℕ) (c : List ℕ) (all : Bool) where
+  pub known-turn
+      : (k : ℕ) → k ≡ w * i → i < n
+      → ((all && f (getD c k 0)) && eachKnown f w (n - (i + 1)) (drop (w * (i + 1)) c)) ≡ (all && eachKnown f w (n - i) (drop (w * i) c))
+  known-turn k e h =
+      let m : n - i ≡ suc (n - (i + 1)) = omega arith in
+      let g : w * (i + 1) ≡ w * i + w = omega arith in
+      let z : k ≡ w * i + 0 = omega arith in
+      let d : drop (w * (i + 1)) c ≡ drop w (drop (w * i) c) = ap (λ (j : ℕ). drop j c) g ∙ sym (drop-drop w (w * i) c) in
+      let o : getD c k 0 ≡ getD (drop (w * i) c) 0 0 = ap (λ (j : ℕ). getD c j 0) z ∙ sym (getD-drop (w * i) c 0 0) in
+      rw (m, d, o) (and-assoc all (f (getD (drop (w * i) c) 0 0)) (eachKnown f w (n - (i + 1)) (drop w (drop (w * i) c))))
+
+  pub known-end : n ≤ i → all ≡ (all && eachKnown f w (n - i) (drop (w * i) c))
+  known-end h = let m : n - i ≡ 0 = omega arith in rw m (sym (and-true all))
+
+pub activation-tests
+    : (b : List ℕ) (n l m t : ℕ) (a : Activation) → n ≡ value (part 0 1 b) → l ≡ value (part 1 4 b) → a ≡ activationBy n l
+    → m ≡ stateNumber a → t ≡ timeLeft a → (eqb m n && eqb t l) ≡ activationKnown b
+unfolding activationKnown activationOf
+activation-tests b n l m t a hn hl ha hm ht =
+    let e : a ≡ activationOf b = ha ∙ ap₂ activationBy hn hl in
+    ap₂ (λ (x y : ℕ). eqb x y && eqb t l) (hm ∙ ap stateNumber e) hn
+    ∙ ap₂ (λ (x y : ℕ). eqb (stateNumber (activationOf b)) (value (part 0 1 b)) && eqb x y) (ht ∙ ap timeLeft e) hl
