@@ -2,6 +2,7 @@
 ghost use mathlib.Core.Bool.{Bool};
 ghost use mathlib.Core.Path.{_≡_};
 ghost use lib.ListN.{length};
+ghost use Rattle.aes.specs.MixTable.{mixTable};
 ghost use Rattle.cmac.specs.ByTable.{Ready};
 ghost use Rattle.station.specs.Limits.{keyOctets};
 ghost use Rattle.effects.specs.Effects.{ignored};
@@ -124,21 +125,30 @@ fn prepared(t: &[u32; 1024], octets: [u8; 16]) -> Prepared
     cmac::prepare(t, octets)
 }
 
-// What follows the last whole message is not looked at.
-pub fn receive_all(s: Station, messages: &[u8]) -> Station
+// What follows the last whole message is not looked at. The table of AES is lent: whoever has named it for other messages
+// lends it on.
+pub fn receive_all_by(t: &[u32; 1024], s: Station, messages: &[u8]) -> Station
+    requires { ⌜ now t ≡ mixTable ⌝ }
     ensures { λ r. ⌜ AllReceived s (now (messages .entry)) r ⌝ }
 {
     if messages.len() < MESSAGE_OCTETS {
         return s;
     }
-    let t = aes::table::MIX;
     let usual = ploam::integrity::default_key();
     let link = s.link;
     let key = link.key;
     let octets = key.octets;
     if key.held {
-        let installed = prepared(&t, octets);
-        return receive_each(&t, usual, installed, s, messages);
+        let installed = prepared(t, octets);
+        return receive_each(t, usual, installed, s, messages);
     }
-    receive_each(&t, usual, usual, s, messages)
+    receive_each(t, usual, usual, s, messages)
+}
+
+// The same by a table that is named here.
+pub fn receive_all(s: Station, messages: &[u8]) -> Station
+    ensures { λ r. ⌜ AllReceived s (now (messages .entry)) r ⌝ }
+{
+    let t = aes::table::MIX;
+    receive_all_by(&t, s, messages)
 }

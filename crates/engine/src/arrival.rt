@@ -3,6 +3,8 @@ ghost use mathlib.Core.Path.{_≡_};
 ghost use mathlib.Core.Bool.{true};
 ghost use Prim.Native.Nat.{_+_, _≤_};
 ghost use lib.ListN.{length};
+ghost use Rattle.aes.specs.MixTable.{mixTable};
+ghost use Rattle.framing.specs.Reads.{readHlend};
 ghost use Rattle.ranges.specs.Ranges.{inRange};
 ghost use Rattle.bwmap.specs.Limits.{planNumbers};
 ghost use Rattle.bwmap.specs.Tables.{Tables};
@@ -11,7 +13,7 @@ ghost use Rattle.bwmap.specs.Series.{plannedOf};
 ghost use Rattle.payload.specs.Walk.{memoryBytes};
 ghost use Rattle.engine.specs.Lengths.{lengthFits, buffersFit};
 ghost use Rattle.engine.specs.Partitions.{headerEnd};
-ghost use Rattle.engine.specs.Frame.{isOperating, isRanging, without, answerTo, planOf, ownOf, walkedFrom, handled, FrameLeaves};
+ghost use Rattle.engine.specs.Frame.{isOperating, isRanging, without, answerTo, planOf, ownOf, walkedFrom, handled, byHlend, FrameLeaves};
 use super::lengths;
 use super::partitions;
 use bwmap::Plan;
@@ -161,6 +163,7 @@ fn receive_payload(
 fn handle(
     syndromes: &[u16; 2048],
     flips: &[u16; 4096],
+    mix: &[u32; 1024],
     s: Station,
     h: Hlend,
     memory: &mut [u8],
@@ -170,7 +173,7 @@ fn handle(
     replies: &mut [u8],
     deliveries: &mut [u8],
 ) -> Outcome
-    requires { ⌜ Tables (now syndromes) (now flips) × (inRange s ≡ true) × (headerEnd h ≤ length (now frame)) × (buffersFit (length (now frame)) (record { memory = now memory; plan = now plan; replies = now replies; deliveries = now deliveries }) ≡ true) ⌝ }
+    requires { ⌜ Tables (now syndromes) (now flips) × (now mix ≡ mixTable) × (inRange s ≡ true) × (headerEnd h ≤ length (now frame)) × (buffersFit (length (now frame)) (record { memory = now memory; plan = now plan; replies = now replies; deliveries = now deliveries }) ≡ true) ⌝ }
     ensures { λ r. ⌜ record { outcome = r; lent = record { memory = now (memory .exit); plan = now (plan .exit); replies = now (replies .exit); deliveries = now (deliveries .exit) } } ≡ handled s h (now (frame .entry)) delay (record { memory = now (memory .entry); plan = now (plan .entry); replies = now (replies .entry); deliveries = now (deliveries .entry) }) ⌝ }
 {
     let map = partitions::map_end(h);
@@ -182,11 +185,11 @@ fn handle(
         &frame[partitions::HLEND_OCTETS..map],
         plan,
     );
-    let sent = replies::reply_all(s, p.messages, delay, replies);
+    let sent = replies::reply_all_by(mix, s, p.messages, delay, replies);
     let r = receive_payload(syndromes, flips, s, end, &frame[end..], memory, deliveries);
     let ports = r.ports;
     let found = sent.with_ports(ports).with_carried(p.carried);
-    let acted = activation::receive_all(found, &frame[map..end]);
+    let acted = activation::receive_all_by(mix, found, &frame[map..end]);
     let arrived = s.activation;
     let ended = timing::frame_end(acted, is_ranging(arrived));
     let delineation = r.delineation;
@@ -199,8 +202,94 @@ fn handle(
     }
 }
 
+// The call is fit: 4, 5, or the frame as its header says.
+fn by_hlend(
+    syndromes: &[u16; 2048],
+    flips: &[u16; 4096],
+    mix: &[u32; 1024],
+    s: Station,
+    memory: &mut [u8],
+    frame: &[u8],
+    delay: u32,
+    plan: &mut [u16],
+    replies: &mut [u8],
+    deliveries: &mut [u8],
+) -> Outcome
+    requires { ⌜ Tables (now syndromes) (now flips) × (now mix ≡ mixTable) × (inRange s ≡ true) × (buffersFit (length (now frame)) (record { memory = now memory; plan = now plan; replies = now replies; deliveries = now deliveries }) ≡ true) ⌝ }
+    ensures { λ r. ⌜ record { outcome = r; lent = record { memory = now (memory .exit); plan = now (plan .exit); replies = now (replies .exit); deliveries = now (deliveries .exit) } } ≡ byHlend (readHlend (now (frame .entry))) s (now (frame .entry)) delay (record { memory = now (memory .entry); plan = now (plan .entry); replies = now (replies .entry); deliveries = now (deliveries .entry) }) ⌝ }
+{
+    match framing::hlend::read_hlend_by(syndromes, flips, frame) {
+        HlendRead::Fields(h) => {
+            if frame.len() < partitions::header_end(h) {
+                return without(Answer::HeaderTooLong, timing::unread_time(s));
+            }
+            handle(
+                syndromes,
+                flips,
+                mix,
+                s,
+                h,
+                memory,
+                frame,
+                delay,
+                plan,
+                replies,
+                deliveries,
+            )
+        }
+        HlendRead::Unreadable => without(Answer::HlendUnreadable, timing::unread_time(s)),
+        HlendRead::Short => without(Answer::HlendUnreadable, timing::unread_time(s)),
+    }
+}
+
 // The frame of this frame time, with the random delay of Serial_Number_ONU in bit times. Answers 0 to 6, tested in that
-// order; the counts are 0 after 1 to 5.
+// order; the counts are 0 after 1 to 5. The tables are lent: a table that is named is copied, so that a program of many
+// calls names each once.
+pub fn frame_by(
+    syndromes: &[u16; 2048],
+    flips: &[u16; 4096],
+    mix: &[u32; 1024],
+    s: Station,
+    memory: &mut [u8],
+    frame: &[u8],
+    delay: u32,
+    plan: &mut [u16],
+    replies: &mut [u8],
+    deliveries: &mut [u8],
+) -> Outcome
+    requires { ⌜ Tables (now syndromes) (now flips) × (now mix ≡ mixTable) ⌝ }
+    ensures { λ r. ⌜ FrameLeaves s (now (frame .entry)) delay (record { memory = now (memory .entry); plan = now (plan .entry); replies = now (replies .entry); deliveries = now (deliveries .entry) }) r (record { memory = now (memory .exit); plan = now (plan .exit); replies = now (replies .exit); deliveries = now (deliveries .exit) }) ⌝ }
+{
+    if !ranges::in_range(s) {
+        return without(Answer::StateOutOfRange, s);
+    }
+    if !lengths::length_fits(frame.len()) {
+        return without(Answer::FrameLengthUnfit, s);
+    }
+    if !lengths::enough(
+        frame.len(),
+        memory.len(),
+        plan.len(),
+        replies.len(),
+        deliveries.len(),
+    ) {
+        return without(Answer::BufferTooShort, s);
+    }
+    by_hlend(
+        syndromes,
+        flips,
+        mix,
+        s,
+        memory,
+        frame,
+        delay,
+        plan,
+        replies,
+        deliveries,
+    )
+}
+
+// The same by tables that are named here, once the call is fit: a refused one copies none.
 pub fn frame(
     s: Station,
     memory: &mut [u8],
@@ -227,28 +316,19 @@ pub fn frame(
     ) {
         return without(Answer::BufferTooShort, s);
     }
-    // A table that is named is copied: the header, the map and the payload are read by the same two.
     let syndromes = hec::syndromes::table();
     let flips = hec::flips::table();
-    match framing::hlend::read_hlend_by(&syndromes, &flips, frame) {
-        HlendRead::Fields(h) => {
-            if frame.len() < partitions::header_end(h) {
-                return without(Answer::HeaderTooLong, timing::unread_time(s));
-            }
-            handle(
-                &syndromes,
-                &flips,
-                s,
-                h,
-                memory,
-                frame,
-                delay,
-                plan,
-                replies,
-                deliveries,
-            )
-        }
-        HlendRead::Unreadable => without(Answer::HlendUnreadable, timing::unread_time(s)),
-        HlendRead::Short => without(Answer::HlendUnreadable, timing::unread_time(s)),
-    }
+    let mix = aes::table::MIX;
+    by_hlend(
+        &syndromes,
+        &flips,
+        &mix,
+        s,
+        memory,
+        frame,
+        delay,
+        plan,
+        replies,
+        deliveries,
+    )
 }

@@ -61,14 +61,15 @@ replies-end s delay b n i h = let e : n - i ≡ 0 = omega arith in rw e
 
 -- the prepared keys are those of a station that holds a key, and of one that holds none
 pub keyed-held
-    : (u p : Prepared) (k : Key) → k .held ≡ true → u ≡ preparedBy mixTable (wordsOf defaultKey)
-    → p ≡ preparedBy mixTable (wordsOf (k .octets)) → Octets (k .octets) → length (k .octets) ≡ 16 → Keyed mixTable u p k
-keyed-held u p k h a b o l =
-    record { table = refl; default = a; own = rw h b; octets = rw h o; sixteen = rw h l }
+    : (t : List ℕ) (u p : Prepared) (k : Key) → t ≡ mixTable → k .held ≡ true → u ≡ preparedBy mixTable (wordsOf defaultKey)
+    → p ≡ preparedBy t (wordsOf (k .octets)) → Octets (k .octets) → length (k .octets) ≡ 16 → Keyed t u p k
+keyed-held t u p k e h a b o l =
+    let b′ : p ≡ preparedBy mixTable (wordsOf (k .octets)) = b ∙ ap (λ (x : List ℕ). preparedBy x (wordsOf (k .octets))) e in
+    record { table = e; default = a; own = rw h b′; octets = rw h o; sixteen = rw h l }
 
 pub keyed-none
-    : (u : Prepared) (k : Key) → k .held ≡ false → u ≡ preparedBy mixTable (wordsOf defaultKey) → Keyed mixTable u u k
-keyed-none u k h a = record { table = refl; default = a; own = rw h a; octets = rw h default-octets; sixteen = rw h }
+    : (t : List ℕ) (u : Prepared) (k : Key) → t ≡ mixTable → k .held ≡ false → u ≡ preparedBy mixTable (wordsOf defaultKey) → Keyed t u u k
+keyed-none t u k e h a = record { table = e; default = a; own = rw h a; octets = rw h default-octets; sixteen = rw h }
 
 -- as many as there is room for
 pub room-for : (n k b : ℕ) → k ≡ min n (b / 48) → b < 2 ^ 64 → (48 * k ≤ b) × (k < 2 ^ 63)

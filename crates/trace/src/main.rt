@@ -3,8 +3,11 @@ mod blocks;
 mod lines;
 mod records;
 
+ghost use mathlib.Core.Path.{_≡_};
 ghost use Prim.Native.Nat.{_≤_};
 ghost use lib.ListN.{length};
+ghost use Rattle.aes.specs.MixTable.{mixTable};
+ghost use Rattle.bwmap.specs.Tables.{Tables};
 ghost use Rattle.trace.specs.Reads.{Within};
 use libc::STDIN_FILENO;
 use libc::STDOUT_FILENO;
@@ -51,6 +54,9 @@ fn write_out(text: &[u8], n: usize) -> bool
 
 // The input has ended: what was kept is a record that is too short.
 fn finish(
+    syndromes: &[u16; 2048],
+    flips: &[u16; 4096],
+    mix: &[u32; 1024],
     run: Run,
     input: &[u8],
     kept: usize,
@@ -60,12 +66,15 @@ fn finish(
     deliveries: &mut [u8],
     text: &mut [u8],
 )
-    requires { ⌜ (kept ≤ length (now input)) × (126 ≤ length (now text)) ⌝ }
+    requires { ⌜ Tables (now syndromes) (now flips) × (now mix ≡ mixTable) × (kept ≤ length (now input)) × (126 ≤ length (now text)) ⌝ }
 {
     if kept == 0 {
         return;
     }
     let p = records::print_record(
+        syndromes,
+        flips,
+        mix,
         run,
         &input[0..kept],
         memory,
@@ -81,6 +90,9 @@ fn finish(
 // A proved loop has to end, and nothing says that the input does: the turns are counted down from a number that no run
 // uses up.
 fn main() {
+    let syndromes = hec::syndromes::table();
+    let flips = hec::flips::table();
+    let mix = aes::table::MIX;
     let mut input = [0u8; 65536];
     let mut memory = [0u8; 34816];
     let mut plan = [0u16; 256];
@@ -95,6 +107,9 @@ fn main() {
         match read_on(&mut input, kept) {
             Got::Filled(filled) => {
                 let h = blocks::turn(
+                    &syndromes,
+                    &flips,
+                    &mix,
                     run,
                     &mut input,
                     filled,
@@ -115,6 +130,9 @@ fn main() {
             }
             Got::Ended => {
                 finish(
+                    &syndromes,
+                    &flips,
+                    &mix,
                     run,
                     &input,
                     kept,

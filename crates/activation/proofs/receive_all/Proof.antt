@@ -1,65 +1,17 @@
--- `activation::receive_all` meets its contract.
+-- `activation::receive_all` meets its contract: the table that it names is the true one.
 -- Assumes nothing.
-use mathlib.Core.Path.{_≡_, _∙_, ap}
-use native.Mathlib.Omega.{arith}
-use Prim.Native.Nat.{_/_}
-use denote.Ref.{now}
-use lib.ListN.{length}
-use Rattle.aes.specs.Words.{Octets}
+use mathlib.Core.Path.{refl}
 use Rattle.aes.specs.MixTable.{mixTable}
-use Rattle.cmac.specs.declared.Prepared.{Prepared}
-use Rattle.activation.specs.Receiving.{receivedAllBy}
-use Rattle.activation.proofs.Receiving.{each-true, key-is, key-none}
 use borrow.Author.Needs.{needs}
 use Rattle.activation.proofs.receive_all.Statement.{statement}
 use Rattle.activation.proofs.receive_all.Tie as tie
 
+receive-all-by-requires : tie.Need-receive-all-by-requires
+unfolding mixTable
+receive-all-by-requires c κs = refl
+
 returns : tie.Need-returns
-returns c =
-    let e : length (now (c .before .before .args .messages)) / 48 ≡ 0 = omega arith in
-    rw e
-
-default-key-requires : tie.Need-default-key-requires
-default-key-requires c κs = search needs
-
-prepared-requires : tie.Need-prepared-requires
-prepared-requires c κs = search needs
-
-receive-each-requires : tie.Need-receive-each-requires
-receive-each-requires c κs = search needs
-
-returns-2 : tie.Need-returns-2
-unfolding mixTable
-returns-2 c =
-    let a = c .before .before .before .before .before .before .before .before .before .before .before .args in
-    let b = now (a .messages) in
-    let o : Octets b = λ i. omega (arith, c .before .before .before .before .before .before .before .before .before .before .shared-slice-known .given i) in
-    let ready = c .before .before .prepared .ensures .0 in
-    c .receive-each .ensures
-    ∙ ap (λ (u : Prepared). receivedAllBy mixTable u (c .before .before .prepared .result) (a .s) b) (c .before .before .before .before .before .before .before .before .default-key .ensures)
-    ∙ each-true (c .before .before .prepared .result) b o (length b / 48) 0 (a .s) (key-is (c .before .before .prepared .result) (a .s .link .key) (ready .made) (ready .octets) (c .before .before .prepared .ensures .1))
-
-receive-each-requires-2 : tie.Need-receive-each-requires-2
-receive-each-requires-2 c κs = search needs
-
-returns-3 : tie.Need-returns-3
-unfolding mixTable
-returns-3 c =
-    let a = c .before .before .before .before .before .before .before .before .before .args in
-    let b = now (a .messages) in
-    let o : Octets b = λ i. omega (arith, c .before .before .before .before .before .before .before .before .shared-slice-known .given i) in
-    c .receive-each2 .ensures
-    ∙ ap (λ (u : Prepared). receivedAllBy mixTable u (c .before .before .before .before .before .before .default-key .result) (a .s) b) (c .before .before .before .before .before .before .default-key .ensures)
-    ∙ each-true (c .before .before .before .before .before .before .default-key .result) b o (length b / 48) 0 (a .s) (key-none (c .before .before .before .before .before .before .default-key .result) (a .s .link .key) (c .before .before .if2 .left))
+returns c = c .receive-all-by .ensures
 
 pub receive-all-spec : {M : Type 1} → statement M
-receive-all-spec =
-    tie.close
-    (tie.spec
-    returns
-    default-key-requires
-    prepared-requires
-    receive-each-requires
-    returns-2
-    receive-each-requires-2
-    returns-3)
+receive-all-spec = tie.close (tie.spec receive-all-by-requires returns)

@@ -21,35 +21,35 @@ part-print-record-start c = omega arith
 
 -- src/main.rt:70:9
 part-print-record-end : tie.Need-part-print-record-end
-part-print-record-end c = omega (arith, c .before .before .before .before .before .before .before .pre .0)
+part-print-record-end c = omega (arith, c .before .before .before .before .before .before .before .pre .2)
 
 -- src/main.rt:68:9
 print-record-requires : tie.Need-print-record-requires
-print-record-requires c κs = omega (arith, c .before .before .before .before .before .before .before .before .before .before .before .before .before .pre .1)
+print-record-requires c κs = (c .before .before .before .before .before .before .before .before .before .before .before .before .before .pre .0, c .before .before .before .before .before .before .before .before .before .before .before .before .before .pre .1, omega (arith, c .before .before .before .before .before .before .before .before .before .before .before .before .before .pre .3))
 
 -- src/main.rt:78:5
 write-out-requires : tie.Need-write-out-requires
-write-out-requires c κs = omega (arith, c .before .before .before .before .before .before .before .before .before .before .before .before .before .before .before .before .before .before .before .before .before .before .before .before .before .pre .1, c .before .before .before .before .before .before .before .before .before .before .before .print-record .ensures .1, c .before .before .before .before .before .before .before .before .before .before .before .print-record .kept .1 .1 .1 .1 .1 .1 .0)
+write-out-requires c κs = omega (arith, c .before .before .before .before .before .before .before .before .before .before .before .before .before .before .before .before .before .before .before .before .before .before .before .before .before .pre .3, c .before .before .before .before .before .before .before .before .before .before .before .print-record .ensures .1, c .before .before .before .before .before .before .before .before .before .before .before .print-record .kept .1 .1 .1 .1 .1 .1 .1 .1 .1 .0)
 
 -- src/main.rt:53:1
 same-length : tie.Need-same-length
-same-length c = c .before .before .before .before .before .before .before .before .before .before .before .before .print-record .kept .1 .1 .0
+same-length c = c .before .before .before .before .before .before .before .before .before .before .before .before .print-record .kept .1 .1 .1 .1 .1 .0
 
 -- src/main.rt:53:1
 same-length-2 : tie.Need-same-length-2
-same-length-2 c = c .before .before .before .before .before .before .before .before .before .before .before .before .print-record .kept .1 .1 .1 .0
+same-length-2 c = c .before .before .before .before .before .before .before .before .before .before .before .before .print-record .kept .1 .1 .1 .1 .1 .1 .0
 
 -- src/main.rt:53:1
 same-length-3 : tie.Need-same-length-3
-same-length-3 c = c .before .before .before .before .before .before .before .before .before .before .before .before .print-record .kept .1 .1 .1 .1 .0
+same-length-3 c = c .before .before .before .before .before .before .before .before .before .before .before .before .print-record .kept .1 .1 .1 .1 .1 .1 .1 .0
 
 -- src/main.rt:53:1
 same-length-4 : tie.Need-same-length-4
-same-length-4 c = c .before .before .before .before .before .before .before .before .before .before .before .before .print-record .kept .1 .1 .1 .1 .1 .0
+same-length-4 c = c .before .before .before .before .before .before .before .before .before .before .before .before .print-record .kept .1 .1 .1 .1 .1 .1 .1 .1 .0
 
 -- src/main.rt:53:1
 same-length-5 : tie.Need-same-length-5
-same-length-5 c = c .before .before .before .before .before .before .before .before .before .before .before .before .print-record .kept .1 .1 .1 .1 .1 .1 .0
+same-length-5 c = c .before .before .before .before .before .before .before .before .before .before .before .before .print-record .kept .1 .1 .1 .1 .1 .1 .1 .1 .1 .0
 
 -- src/main.rt:53:1
 returns-2 : tie.Need-returns-2

@@ -3,10 +3,13 @@ use mathlib.Core.Path.{_≡_, refl, sym, _∙_}
 use Prim.Native.Nat.{_≤_}
 use native.Mathlib.Omega.{arith}
 use lib.ListN.{length}
+use Rattle.aes.specs.MixTable.{mixTable}
 use Rattle.trace.proofs.main.Statement.{statement}
 use Rattle.trace.proofs.main.Tie as tie
 use Rattle.trace.proofs.main.Reads as reads
 use Rattle.trace.proofs.main.Lts as lts
+use Rattle.hec.proofs.flips.table.Reads as flips-table-reads
+use Rattle.hec.proofs.syndromes.table.Reads as syndromes-table-reads
 use Rattle.trace.proofs.blocks.turn.Reads as turn-reads
 use Rattle.trace.proofs.finish.Reads as finish-reads
 use Rattle.trace.proofs.read_on.Reads as read-on-reads
@@ -15,7 +18,7 @@ use Rattle.trace.proofs.write_out.Reads as write-out-reads
 
 -- the arrays are as long as they were made, and less than a record is kept
 abbrev Inv-loop : tie.InvT-loop
-Inv-loop input₀ memory₀ plan₀ replies₀ deliveries₀ text₀ run₀ kept₀ turns₀ input memory plan replies deliveries text run kept turns =
+Inv-loop syndromes flips mix input₀ memory₀ plan₀ replies₀ deliveries₀ text₀ run₀ kept₀ turns₀ input memory plan replies deliveries text run kept turns =
     (kept ≤ 1023)
     × (65536 ≡ length input)
     × (34816 ≡ length memory)
@@ -25,7 +28,7 @@ Inv-loop input₀ memory₀ plan₀ replies₀ deliveries₀ text₀ run₀ kept
     × (8192 ≡ length text)
 
 abbrev μ-loop : tie.MeasureT-loop
-μ-loop input₀ memory₀ plan₀ replies₀ deliveries₀ text₀ run₀ kept₀ turns₀ input memory plan replies deliveries text run kept turns = turns
+μ-loop syndromes flips mix input₀ memory₀ plan₀ replies₀ deliveries₀ text₀ run₀ kept₀ turns₀ input memory plan replies deliveries text run kept turns = turns
 
 -- a read fills no more than the input
 filled-within : (c : tie.After-filled Inv-loop μ-loop) → (c .filled .given .0 .0 ≤ length (c .before .before .before .read-on .last .0)) × (c .filled .given .0 .0 ≤ 65536)
@@ -33,140 +36,148 @@ filled-within c =
     let w = rw (c .filled .given .1) at (c .before .before .before .read-on .ensures) in
     (omega (arith, w, c .before .before .before .read-on .kept .0), omega (arith, w, c .before .before .before .before .before .before .loop .inv .1))
 
--- src/main.rt:90:9
+-- src/main.rt:93:21
+table-requires : tie.Need-table-requires Inv-loop μ-loop
+table-requires c κs = tt
+
+-- src/main.rt:94:17
+table-requires-2 : tie.Need-table-requires-2 Inv-loop μ-loop
+table-requires-2 c κs = tt
+
+-- src/main.rt:102:9
 start-requires : tie.Need-start-requires Inv-loop μ-loop
 start-requires c κs = tt
 
--- src/main.rt:93:5
+-- src/main.rt:105:5
 loop-holds : tie.Need-loop-holds Inv-loop μ-loop
 loop-holds c = search needs
 
--- src/main.rt:94:9
+-- src/main.rt:106:9
 sub-turns : tie.Need-sub-turns Inv-loop μ-loop
 sub-turns c = omega arith
 
--- src/main.rt:95:23
+-- src/main.rt:107:23
 slice-aggregate-read-on : tie.Need-slice-aggregate-read-on Inv-loop μ-loop
 slice-aggregate-read-on c = c .before .before .loop .inv .1
 
--- src/main.rt:95:15
+-- src/main.rt:107:15
 read-on-requires : tie.Need-read-on-requires Inv-loop μ-loop
 read-on-requires c κs = omega (arith, c .before .before .loop .inv .0, c .before .before .loop .inv .1)
 
--- src/main.rt:96:25
+-- src/main.rt:108:25
 enum-known-filled : tie.Need-enum-known-filled Inv-loop μ-loop
 enum-known-filled c = search needs
 
--- src/main.rt:99:21
+-- src/main.rt:114:21
 slice-aggregate-turn : tie.Need-slice-aggregate-turn Inv-loop μ-loop
-slice-aggregate-turn c = c .before .before .before .before .before .before .before .before .loop .inv .1 ∙ sym (c .before .before .before .before .before .read-on .kept .0)
+slice-aggregate-turn c = c .before .before .before .before .before .before .before .before .before .before .before .loop .inv .1 ∙ sym (c .before .before .before .before .before .before .before .before .read-on .kept .0)
 
--- src/main.rt:101:21
+-- src/main.rt:116:21
 slice-aggregate-turn-2 : tie.Need-slice-aggregate-turn-2 Inv-loop μ-loop
-slice-aggregate-turn-2 c = c .before .before .before .before .before .before .before .before .before .loop .inv .2
+slice-aggregate-turn-2 c = c .before .before .before .before .before .before .before .before .before .before .before .before .loop .inv .2
 
--- src/main.rt:102:21
+-- src/main.rt:117:21
 slice-aggregate-turn-3 : tie.Need-slice-aggregate-turn-3 Inv-loop μ-loop
-slice-aggregate-turn-3 c = c .before .before .before .before .before .before .before .before .before .before .loop .inv .3
+slice-aggregate-turn-3 c = c .before .before .before .before .before .before .before .before .before .before .before .before .before .loop .inv .3
 
--- src/main.rt:103:21
+-- src/main.rt:118:21
 slice-aggregate-turn-4 : tie.Need-slice-aggregate-turn-4 Inv-loop μ-loop
-slice-aggregate-turn-4 c = c .before .before .before .before .before .before .before .before .before .before .before .loop .inv .4
+slice-aggregate-turn-4 c = c .before .before .before .before .before .before .before .before .before .before .before .before .before .before .loop .inv .4
 
--- src/main.rt:104:21
+-- src/main.rt:119:21
 slice-aggregate-turn-5 : tie.Need-slice-aggregate-turn-5 Inv-loop μ-loop
-slice-aggregate-turn-5 c = c .before .before .before .before .before .before .before .before .before .before .before .before .loop .inv .5
+slice-aggregate-turn-5 c = c .before .before .before .before .before .before .before .before .before .before .before .before .before .before .before .loop .inv .5
 
--- src/main.rt:105:21
+-- src/main.rt:120:21
 slice-aggregate-turn-6 : tie.Need-slice-aggregate-turn-6 Inv-loop μ-loop
-slice-aggregate-turn-6 c = c .before .before .before .before .before .before .before .before .before .before .before .before .before .loop .inv .6
+slice-aggregate-turn-6 c = c .before .before .before .before .before .before .before .before .before .before .before .before .before .before .before .before .loop .inv .6
 
--- src/main.rt:97:21
+-- src/main.rt:109:21
 turn-requires : tie.Need-turn-requires Inv-loop μ-loop
+unfolding mixTable
 turn-requires c κs =
-    let h = filled-within (c .before .before .before .before .before .before .before) in
-    (h .0, omega (arith, h .1, c .before .before .before .before .before .before .before .before .before .before .before .before .before .loop .inv .6))
+    let h = filled-within (c .before .before .before .before .before .before .before .before .before .before) in
+    (record { octets = c .before .before .before .before .before .before .before .before .before .before .before .before .before .before .before .before .before .before .before .table .ensures; repairs = c .before .before .before .before .before .before .before .before .before .before .before .before .before .before .before .before .before .before .table2 .ensures }, refl, h .0, omega (arith, h .1, c .before .before .before .before .before .before .before .before .before .before .before .before .before .before .before .before .loop .inv .6))
 
--- src/main.rt:107:31
+-- src/main.rt:122:31
 slice-aggregate-write-out : tie.Need-slice-aggregate-write-out Inv-loop μ-loop
-slice-aggregate-write-out c = c .before .before .before .before .before .before .before .before .before .before .before .before .before .before .before .before .before .before .before .before .before .loop .inv .6 ∙ sym (c .before .before .before .before .before .before .before .turn .kept .1 .1 .1 .1 .1 .1 .1 .0)
+slice-aggregate-write-out c = c .before .before .before .before .before .before .before .before .before .before .before .before .before .before .before .before .before .before .before .before .before .before .before .before .loop .inv .6 ∙ sym (c .before .before .before .before .before .before .before .turn .kept .1 .1 .1 .1 .1 .1 .1 .1 .1 .1 .0)
 
--- src/main.rt:107:21
+-- src/main.rt:122:21
 write-out-requires : tie.Need-write-out-requires Inv-loop μ-loop
-write-out-requires c κs =
-    omega (arith, c .before .before .before .before .before .before .before .turn .ensures .2, filled-within (c .before .before .before .before .before .before .before .before .before .before .before .before .before .before .before) .1, c .before .before .before .before .before .before .before .before .before .before .before .before .before .before .before .before .before .before .before .before .before .loop .inv .6, c .before .before .before .before .before .before .before .turn .kept .1 .1 .1 .1 .1 .1 .1 .0)
+write-out-requires c κs = omega (arith, c .before .before .before .before .before .before .before .turn .ensures .2, filled-within (c .before .before .before .before .before .before .before .before .before .before .before .before .before .before .before .before .before .before) .1, c .before .before .before .before .before .before .before .before .before .before .before .before .before .before .before .before .before .before .before .before .before .before .before .before .loop .inv .6, c .before .before .before .before .before .before .before .turn .kept .1 .1 .1 .1 .1 .1 .1 .1 .1 .1 .0)
 
--- src/main.rt:108:21
+-- src/main.rt:123:21
 returns : tie.Need-returns Inv-loop μ-loop
 returns c = tt
 
--- src/main.rt:113:21
+-- src/main.rt:128:21
 returns-2 : tie.Need-returns-2 Inv-loop μ-loop
 returns-2 c = tt
 
--- src/main.rt:93:5
+-- src/main.rt:105:5
 loop-less : tie.Need-loop-less Inv-loop μ-loop
-loop-less c =
-    omega (arith, c .before .before .before .before .before .before .before .before .before .before .before .before .before .before .before .before .before .before .before .before .before .before .before .before .loop-test .taken)
+loop-less c = omega (arith, c .before .before .before .before .before .before .before .before .before .before .before .before .before .before .before .before .before .before .before .before .before .before .before .before .before .before .before .loop-test .taken)
 
--- src/main.rt:93:5
+-- src/main.rt:105:5
 loop-again : tie.Need-loop-again Inv-loop μ-loop
 loop-again c =
     let k = c .before .before .before .before .before .before .before .before .before .before .before .turn .kept in (
       c .before .before .before .before .before .before .before .before .before .before .before .turn .ensures .1,
-      c .before .before .before .before .before .before .before .before .before .before .before .before .before .before .before .before .before .before .before .before .before .before .before .before .before .loop .inv .1 ∙ sym (c .before .before .before .before .before .before .before .before .before .before .before .before .before .before .before .before .before .before .before .before .before .before .read-on .kept .0) ∙ sym (k .1 .0),
-      c .before .before .before .before .before .before .before .before .before .before .before .before .before .before .before .before .before .before .before .before .before .before .before .before .before .loop .inv .2 ∙ sym (k .1 .1 .1 .0),
-      c .before .before .before .before .before .before .before .before .before .before .before .before .before .before .before .before .before .before .before .before .before .before .before .before .before .loop .inv .3 ∙ sym (k .1 .1 .1 .1 .0),
-      c .before .before .before .before .before .before .before .before .before .before .before .before .before .before .before .before .before .before .before .before .before .before .before .before .before .loop .inv .4 ∙ sym (k .1 .1 .1 .1 .1 .0),
-      c .before .before .before .before .before .before .before .before .before .before .before .before .before .before .before .before .before .before .before .before .before .before .before .before .before .loop .inv .5 ∙ sym (k .1 .1 .1 .1 .1 .1 .0),
-      c .before .before .before .before .before .before .before .before .before .before .before .before .before .before .before .before .before .before .before .before .before .before .before .before .before .loop .inv .6 ∙ sym (k .1 .1 .1 .1 .1 .1 .1 .0),
+      c .before .before .before .before .before .before .before .before .before .before .before .before .before .before .before .before .before .before .before .before .before .before .before .before .before .before .before .before .loop .inv .1 ∙ sym (c .before .before .before .before .before .before .before .before .before .before .before .before .before .before .before .before .before .before .before .before .before .before .before .before .before .read-on .kept .0) ∙ sym (k .1 .1 .1 .1 .0),
+      c .before .before .before .before .before .before .before .before .before .before .before .before .before .before .before .before .before .before .before .before .before .before .before .before .before .before .before .before .loop .inv .2 ∙ sym (k .1 .1 .1 .1 .1 .1 .0),
+      c .before .before .before .before .before .before .before .before .before .before .before .before .before .before .before .before .before .before .before .before .before .before .before .before .before .before .before .before .loop .inv .3 ∙ sym (k .1 .1 .1 .1 .1 .1 .1 .0),
+      c .before .before .before .before .before .before .before .before .before .before .before .before .before .before .before .before .before .before .before .before .before .before .before .before .before .before .before .before .loop .inv .4 ∙ sym (k .1 .1 .1 .1 .1 .1 .1 .1 .0),
+      c .before .before .before .before .before .before .before .before .before .before .before .before .before .before .before .before .before .before .before .before .before .before .before .before .before .before .before .before .loop .inv .5 ∙ sym (k .1 .1 .1 .1 .1 .1 .1 .1 .1 .0),
+      c .before .before .before .before .before .before .before .before .before .before .before .before .before .before .before .before .before .before .before .before .before .before .before .before .before .before .before .before .loop .inv .6 ∙ sym (k .1 .1 .1 .1 .1 .1 .1 .1 .1 .1 .0),
     )
 
--- src/main.rt:119:21
+-- src/main.rt:133:21
 enum-told : tie.Need-enum-told Inv-loop μ-loop
 enum-told c = search needs
 
--- src/main.rt:119:21
+-- src/main.rt:137:21
 slice-aggregate-finish : tie.Need-slice-aggregate-finish Inv-loop μ-loop
-slice-aggregate-finish c = c .before .before .before .before .before .before .before .loop .inv .1 ∙ sym (c .before .before .before .before .read-on .kept .0)
+slice-aggregate-finish c = c .before .before .before .before .before .before .before .before .before .before .loop .inv .1 ∙ sym (c .before .before .before .before .before .before .before .read-on .kept .0)
 
--- src/main.rt:121:21
+-- src/main.rt:139:21
 slice-aggregate-finish-2 : tie.Need-slice-aggregate-finish-2 Inv-loop μ-loop
-slice-aggregate-finish-2 c = c .before .before .before .before .before .before .before .before .loop .inv .2
+slice-aggregate-finish-2 c = c .before .before .before .before .before .before .before .before .before .before .before .loop .inv .2
 
--- src/main.rt:122:21
+-- src/main.rt:140:21
 slice-aggregate-finish-3 : tie.Need-slice-aggregate-finish-3 Inv-loop μ-loop
-slice-aggregate-finish-3 c = c .before .before .before .before .before .before .before .before .before .loop .inv .3
+slice-aggregate-finish-3 c = c .before .before .before .before .before .before .before .before .before .before .before .before .loop .inv .3
 
--- src/main.rt:123:21
+-- src/main.rt:141:21
 slice-aggregate-finish-4 : tie.Need-slice-aggregate-finish-4 Inv-loop μ-loop
-slice-aggregate-finish-4 c = c .before .before .before .before .before .before .before .before .before .before .loop .inv .4
+slice-aggregate-finish-4 c = c .before .before .before .before .before .before .before .before .before .before .before .before .before .loop .inv .4
 
--- src/main.rt:124:21
+-- src/main.rt:142:21
 slice-aggregate-finish-5 : tie.Need-slice-aggregate-finish-5 Inv-loop μ-loop
-slice-aggregate-finish-5 c = c .before .before .before .before .before .before .before .before .before .before .before .loop .inv .5
+slice-aggregate-finish-5 c = c .before .before .before .before .before .before .before .before .before .before .before .before .before .before .loop .inv .5
 
--- src/main.rt:125:21
+-- src/main.rt:143:21
 slice-aggregate-finish-6 : tie.Need-slice-aggregate-finish-6 Inv-loop μ-loop
-slice-aggregate-finish-6 c = c .before .before .before .before .before .before .before .before .before .before .before .before .loop .inv .6
+slice-aggregate-finish-6 c = c .before .before .before .before .before .before .before .before .before .before .before .before .before .before .before .loop .inv .6
 
--- src/main.rt:117:17
+-- src/main.rt:132:17
 finish-requires : tie.Need-finish-requires Inv-loop μ-loop
-finish-requires c κs = (omega (arith, c .before .before .before .before .before .before .before .before .before .before .before .before .loop .inv .0, c .before .before .before .before .before .before .before .before .before .before .before .before .loop .inv .1, c .before .before .before .before .before .before .before .before .before .read-on .kept .0), omega (arith, c .before .before .before .before .before .before .before .before .before .before .before .before .loop .inv .6))
+unfolding mixTable
+finish-requires c κs = (record { octets = c .before .before .before .before .before .before .before .before .before .before .before .before .before .before .before .before .before .before .table .ensures; repairs = c .before .before .before .before .before .before .before .before .before .before .before .before .before .before .before .before .before .table2 .ensures }, refl, omega (arith, c .before .before .before .before .before .before .before .before .before .before .before .before .before .before .before .loop .inv .0, c .before .before .before .before .before .before .before .before .before .before .before .before .before .before .before .loop .inv .1, c .before .before .before .before .before .before .before .before .before .before .before .before .read-on .kept .0), omega (arith, c .before .before .before .before .before .before .before .before .before .before .before .before .before .before .before .loop .inv .6))
 
--- src/main.rt:127:17
+-- src/main.rt:145:17
 returns-3 : tie.Need-returns-3 Inv-loop μ-loop
 returns-3 c = tt
 
--- src/main.rt:130:17
+-- src/main.rt:148:17
 enum-told-2 : tie.Need-enum-told-2 Inv-loop μ-loop
 enum-told-2 c = search needs
 
--- src/main.rt:130:17
+-- src/main.rt:148:17
 returns-4 : tie.Need-returns-4 Inv-loop μ-loop
 returns-4 c = tt
 
--- src/main.rt:83:1
+-- src/main.rt:92:1
 returns-5 : tie.Need-returns-5 Inv-loop μ-loop
 returns-5 c = tt
 
@@ -176,6 +187,8 @@ main-spec =
     (tie.spec
     Inv-loop
     μ-loop
+    table-requires
+    table-requires-2
     start-requires
     loop-holds
     sub-turns

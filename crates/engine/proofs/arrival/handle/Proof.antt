@@ -15,14 +15,14 @@ use Rattle.engine.proofs.arrival.handle.Statement.{statement}
 use Rattle.engine.proofs.arrival.handle.Tie as tie
 use Rattle.engine.proofs.arrival.handle.Reads as reads
 use Rattle.engine.proofs.arrival.handle.Lts as lts
-use Rattle.activation.proofs.receive_all.Reads as receive-all-reads
+use Rattle.activation.proofs.receive_all_by.Reads as receive-all-by-reads
 use Rattle.engine.proofs.arrival.answer_to.Reads as answer-to-reads
 use Rattle.engine.proofs.arrival.is_ranging.Reads as is-ranging-reads
 use Rattle.engine.proofs.arrival.plan_bursts.Reads as plan-bursts-reads
 use Rattle.engine.proofs.arrival.receive_payload.Reads as receive-payload-reads
 use Rattle.engine.proofs.partitions.header_end.Reads as header-end-reads
 use Rattle.engine.proofs.partitions.map_end.Reads as map-end-reads
-use Rattle.replies.proofs.reply_all.Reads as reply-all-reads
+use Rattle.replies.proofs.reply_all_by.Reads as reply-all-by-reads
 use Rattle.station.proofs.Station.with_carried.Reads as with-carried-reads
 use Rattle.station.proofs.Station.with_ports.Reads as with-ports-reads
 use Rattle.timing.proofs.frame_end.Reads as frame-end-reads
@@ -31,88 +31,88 @@ abbrev buffers : tie.Start → Lent
 buffers c = record { memory = now (c .args .memory); plan = now (c .args .plan); replies = now (c .args .replies); deliveries = now (c .args .deliveries) }
 
 fitting : (c : tie.Start) → Room (length (now (c .args .frame))) (buffers c)
-fitting c = room (length (now (c .args .frame))) (buffers c) (c .pre .3)
+fitting c = room (length (now (c .args .frame))) (buffers c) (c .pre .4)
 
--- src/arrival.rt:178:9
+-- src/arrival.rt:179:9
 map-end-requires : tie.Need-map-end-requires
 map-end-requires c κs = search needs
 
--- src/arrival.rt:179:9
+-- src/arrival.rt:180:9
 header-end-requires : tie.Need-header-end-requires
 header-end-requires c κs = search needs
 
--- src/arrival.rt:184:9
+-- src/arrival.rt:185:9
 sub-plan-bursts : tie.Need-sub-plan-bursts
 sub-plan-bursts c = search needs
 
--- src/arrival.rt:184:9
+-- src/arrival.rt:185:9
 part-plan-bursts-start : tie.Need-part-plan-bursts-start
 part-plan-bursts-start c = search needs
 
--- src/arrival.rt:184:9
+-- src/arrival.rt:185:9
 part-plan-bursts-end : tie.Need-part-plan-bursts-end
 part-plan-bursts-end c = search needs
 
--- src/arrival.rt:180:9
+-- src/arrival.rt:181:9
 plan-bursts-requires : tie.Need-plan-bursts-requires
 plan-bursts-requires c κs = ((c .before .before .before .before .before .before .before .before .before) .pre .0, fitting (c .before .before .before .before .before .before .before .before .before) .plan)
 
--- src/arrival.rt:187:9
-reply-all-requires : tie.Need-reply-all-requires
-reply-all-requires c κs = search needs
+-- src/arrival.rt:188:9
+reply-all-by-requires : tie.Need-reply-all-by-requires
+reply-all-by-requires c κs = search needs
 
--- src/arrival.rt:193:9
+-- src/arrival.rt:189:55
 sub-receive-payload : tie.Need-sub-receive-payload
-sub-receive-payload c = omega (arith, c .before .before .before .before .before .before .before .before .before .header-end .ensures, (c .before .before .before .before .before .before .before .before .before .before .before .before .before .before .before .before) .pre .2)
+sub-receive-payload c = omega (arith, c .before .before .before .before .before .before .before .before .before .header-end .ensures, (c .before .before .before .before .before .before .before .before .before .before .before .before .before .before .before .before) .pre .3)
 
--- src/arrival.rt:193:9
+-- src/arrival.rt:189:55
 part-receive-payload-start : tie.Need-part-receive-payload-start
-part-receive-payload-start c = omega (arith, c .before .before .before .before .before .before .before .before .before .header-end .ensures, (c .before .before .before .before .before .before .before .before .before .before .before .before .before .before .before .before) .pre .2)
+part-receive-payload-start c = omega (arith, c .before .before .before .before .before .before .before .before .before .header-end .ensures, (c .before .before .before .before .before .before .before .before .before .before .before .before .before .before .before .before) .pre .3)
 
--- src/arrival.rt:193:9
+-- src/arrival.rt:189:55
 part-receive-payload-end : tie.Need-part-receive-payload-end
 part-receive-payload-end c = search needs
 
--- src/arrival.rt:188:9
+-- src/arrival.rt:189:9
 receive-payload-requires : tie.Need-receive-payload-requires
 receive-payload-requires c κs =
     let f = now ((c .before .before .before .before .before .before .before .before .before .before .before .before .before .before .before .before .before .before .before) .args .frame) in
     let e = c .before .before .before .before .before .before .before .before .before .before .before .before .header-end .result in
-    ((c .before .before .before .before .before .before .before .before .before .before .before .before .before .before .before .before .before .before .before) .pre .0, (c .before .before .before .before .before .before .before .before .before .before .before .before .before .before .before .before .before .before .before) .pre .1, fitting (c .before .before .before .before .before .before .before .before .before .before .before .before .before .before .before .before .before .before .before) .memory, omega (arith, fitting (c .before .before .before .before .before .before .before .before .before .before .before .before .before .before .before .before .before .before .before) .deliveries, length-take (length f - e) (drop e f), length-drop e f))
+    ((c .before .before .before .before .before .before .before .before .before .before .before .before .before .before .before .before .before .before .before) .pre .0, (c .before .before .before .before .before .before .before .before .before .before .before .before .before .before .before .before .before .before .before) .pre .2, fitting (c .before .before .before .before .before .before .before .before .before .before .before .before .before .before .before .before .before .before .before) .memory, omega (arith, fitting (c .before .before .before .before .before .before .before .before .before .before .before .before .before .before .before .before .before .before .before) .deliveries, length-take (length f - e) (drop e f), length-drop e f))
 
--- src/arrival.rt:198:17
+-- src/arrival.rt:191:17
 with-ports-requires : tie.Need-with-ports-requires
 with-ports-requires c κs = search needs
 
--- src/arrival.rt:198:9
+-- src/arrival.rt:191:9
 with-carried-requires : tie.Need-with-carried-requires
 with-carried-requires c κs = search needs
 
--- src/arrival.rt:199:48
-sub-receive-all : tie.Need-sub-receive-all
-sub-receive-all c = omega (arith, c .before .before .before .before .before .before .before .before .before .before .before .before .before .before .before .before .before .before .before .before .before .map-end .ensures, c .before .before .before .before .before .before .before .before .before .before .before .before .before .before .before .before .before .before .before .before .header-end .ensures)
+-- src/arrival.rt:192:56
+sub-receive-all-by : tie.Need-sub-receive-all-by
+sub-receive-all-by c = omega (arith, c .before .before .before .before .before .before .before .before .before .before .before .before .before .before .before .before .before .before .before .before .before .map-end .ensures, c .before .before .before .before .before .before .before .before .before .before .before .before .before .before .before .before .before .before .before .before .header-end .ensures)
 
--- src/arrival.rt:199:48
-part-receive-all-start : tie.Need-part-receive-all-start
-part-receive-all-start c = omega (arith, c .before .before .before .before .before .before .before .before .before .before .before .before .before .before .before .before .before .before .before .before .before .map-end .ensures, c .before .before .before .before .before .before .before .before .before .before .before .before .before .before .before .before .before .before .before .before .header-end .ensures)
+-- src/arrival.rt:192:56
+part-receive-all-by-start : tie.Need-part-receive-all-by-start
+part-receive-all-by-start c = omega (arith, c .before .before .before .before .before .before .before .before .before .before .before .before .before .before .before .before .before .before .before .before .before .map-end .ensures, c .before .before .before .before .before .before .before .before .before .before .before .before .before .before .before .before .before .before .before .before .header-end .ensures)
 
--- src/arrival.rt:199:48
-part-receive-all-end : tie.Need-part-receive-all-end
-part-receive-all-end c = omega (arith, c .before .before .before .before .before .before .before .before .before .before .before .before .before .before .before .before .before .before .before .before .before .map-end .ensures, c .before .before .before .before .before .before .before .before .before .before .before .before .before .before .before .before .before .before .before .before .header-end .ensures, (c .before .before .before .before .before .before .before .before .before .before .before .before .before .before .before .before .before .before .before .before .before .before .before .before .before .before .before) .pre .2)
+-- src/arrival.rt:192:56
+part-receive-all-by-end : tie.Need-part-receive-all-by-end
+part-receive-all-by-end c = omega (arith, c .before .before .before .before .before .before .before .before .before .before .before .before .before .before .before .before .before .before .before .before .before .map-end .ensures, c .before .before .before .before .before .before .before .before .before .before .before .before .before .before .before .before .before .before .before .before .header-end .ensures, (c .before .before .before .before .before .before .before .before .before .before .before .before .before .before .before .before .before .before .before .before .before .before .before .before .before .before .before) .pre .3)
 
--- src/arrival.rt:199:9
-receive-all-requires : tie.Need-receive-all-requires
-receive-all-requires c κs = search needs
+-- src/arrival.rt:192:9
+receive-all-by-requires : tie.Need-receive-all-by-requires
+receive-all-by-requires c κs = (c .before .before .before .before .before .before .before .before .before .before .before .before .before .before .before .before .before .before .before .before .before .before .before .before .before .before .before .before) .pre .1
 
--- src/arrival.rt:201:42
+-- src/arrival.rt:194:42
 is-ranging-requires : tie.Need-is-ranging-requires
 is-ranging-requires c κs = search needs
 
--- src/arrival.rt:201:9
+-- src/arrival.rt:194:9
 frame-end-requires : tie.Need-frame-end-requires
 frame-end-requires c κs = search needs
 
--- src/arrival.rt:204:17
+-- src/arrival.rt:197:17
 answer-to-requires : tie.Need-answer-to-requires
 answer-to-requires c κs = search needs
 
@@ -142,12 +142,12 @@ returns c =
     let map = map-part (a .h) f m (c .before .before .before .before .before .before .before .before .before .before .before .before .before .before .before .before .before .before .before .before .before .before .before .before .before .before .map-end .ensures) in
     let rest = payload-part (a .h) f e (c .before .before .before .before .before .before .before .before .before .before .before .before .before .before .before .before .before .before .before .before .before .before .before .before .before .header-end .ensures) in
     let asked = messages-part (a .h) f m e (c .before .before .before .before .before .before .before .before .before .before .before .before .before .before .before .before .before .before .before .before .before .before .before .before .before .before .map-end .ensures) (c .before .before .before .before .before .before .before .before .before .before .before .before .before .before .before .before .before .before .before .before .before .before .before .before .before .header-end .ensures) in
-    from-stages (a .s) (a .h) f (a .delay) (buffers (c .before .before .before .before .before .before .before .before .before .before .before .before .before .before .before .before .before .before .before .before .before .before .before .before .before .before .before .before .before .before .before .before)) (c .before .before .before .before .before .before .before .before .before .before .before .before .before .before .before .before .before .before .before .before .before .before .plan-bursts .result) _ _ _ _ (c .before .before .before .before .before .before .before .before .before .before .before .before .before .before .before .before .before .before .reply-all .result) (c .before .before .before .before .before .before .before .before .before .before .before .before .receive-payload .result) (c .before .frame-end .result) (c .answer-to .result) (fitting (c .before .before .before .before .before .before .before .before .before .before .before .before .before .before .before .before .before .before .before .before .before .before .before .before .before .before .before .before .before .before .before .before))
+    from-stages (a .s) (a .h) f (a .delay) (buffers (c .before .before .before .before .before .before .before .before .before .before .before .before .before .before .before .before .before .before .before .before .before .before .before .before .before .before .before .before .before .before .before .before)) (c .before .before .before .before .before .before .before .before .before .before .before .before .before .before .before .before .before .before .before .before .before .before .plan-bursts .result) _ _ _ _ (c .before .before .before .before .before .before .before .before .before .before .before .before .before .before .before .before .before .before .reply-all-by .result) (c .before .before .before .before .before .before .before .before .before .before .before .before .receive-payload .result) (c .before .frame-end .result) (c .answer-to .result) (fitting (c .before .before .before .before .before .before .before .before .before .before .before .before .before .before .before .before .before .before .before .before .before .before .before .before .before .before .before .before .before .before .before .before))
     (c .before .before .before .before .before .before .before .before .before .before .before .before .before .before .before .before .before .before .before .before .before .before .plan-bursts .ensures .0 ∙ ap (λ (x : List ℕ). counted (a .s .carried) (plannedOf (ownOf (a .s)) x (a .s .carried))) map)
     (c .before .before .before .before .before .before .before .before .before .before .before .before .before .before .before .before .before .before .before .before .before .before .plan-bursts .ensures .1 ∙ ap (λ (x : List ℕ). written (plannedOf (ownOf (a .s)) x (a .s .carried)) (now (a .plan))) map)
-    (c .before .before .before .before .before .before .before .before .before .before .before .before .before .before .before .before .before .before .reply-all .ensures)
+    (c .before .before .before .before .before .before .before .before .before .before .before .before .before .before .before .before .before .before .reply-all-by .ensures)
     (c .before .before .before .before .before .before .before .before .before .before .before .before .receive-payload .ensures ∙ ap (λ (k : ℕ). walkedFrom (a .s) k (take (length f - e) (drop e f)) (now (a .memory)) (now (a .deliveries))) (c .before .before .before .before .before .before .before .before .before .before .before .before .before .before .before .before .before .before .before .before .before .before .before .before .before .header-end .ensures) ∙ ap (λ (x : List ℕ). walkedFrom (a .s) (headerEnd (a .h)) x (now (a .memory)) (now (a .deliveries))) rest)
-    (c .before .frame-end .ensures ∙ rw (c .before .before .before .receive-all .ensures, c .before .before .is-ranging .ensures, c .before .before .before .before .before .with-carried .ensures, c .before .before .before .before .before .before .with-ports .ensures, asked))
+    (c .before .frame-end .ensures ∙ rw (c .before .before .before .receive-all-by .ensures, c .before .before .is-ranging .ensures, c .before .before .before .before .before .with-carried .ensures, c .before .before .before .before .before .before .with-ports .ensures, asked))
     (c .answer-to .ensures)
 
 pub handle-spec : {M : Type 1} → statement M
@@ -160,17 +160,17 @@ handle-spec =
     part-plan-bursts-start
     part-plan-bursts-end
     plan-bursts-requires
-    reply-all-requires
+    reply-all-by-requires
     sub-receive-payload
     part-receive-payload-start
     part-receive-payload-end
     receive-payload-requires
     with-ports-requires
     with-carried-requires
-    sub-receive-all
-    part-receive-all-start
-    part-receive-all-end
-    receive-all-requires
+    sub-receive-all-by
+    part-receive-all-by-start
+    part-receive-all-by-end
+    receive-all-by-requires
     is-ranging-requires
     frame-end-requires
     answer-to-requires

@@ -23,7 +23,7 @@ showing p memory plan replies deliveries text =
 
 -- what is still to come shows what all of it showed from the start
 abbrev Inv-loop : tie.InvT-loop
-Inv-loop input count memory₀ plan₀ replies₀ deliveries₀ text₀ p₀ i₀ memory plan replies deliveries text p i =
+Inv-loop syndromes flips mix input count memory₀ plan₀ replies₀ deliveries₀ text₀ p₀ i₀ memory plan replies deliveries text p i =
     (i ≤ count)
     × (p .place ≤ 126 * i)
     × (shownFrom (showing p memory plan replies deliveries text) (records (count - i) (drop (i * 1024) input))
@@ -35,7 +35,7 @@ Inv-loop input count memory₀ plan₀ replies₀ deliveries₀ text₀ p₀ i�
     × (length text ≡ length text₀)
 
 abbrev μ-loop : tie.MeasureT-loop
-μ-loop input count memory₀ plan₀ replies₀ deliveries₀ text₀ p₀ i₀ memory plan replies deliveries text p i = count - i
+μ-loop syndromes flips mix input count memory₀ plan₀ replies₀ deliveries₀ text₀ p₀ i₀ memory plan replies deliveries text p i = count - i
 
 -- src/blocks.rt:35:5
 loop-holds : tie.Need-loop-holds Inv-loop μ-loop
@@ -46,27 +46,27 @@ loop-holds c =
 
 -- src/blocks.rt:36:20
 mul-from : tie.Need-mul-from Inv-loop μ-loop
-mul-from c = omega (arith, c .loop-test .taken, c .before .before .before .before .before .before .before .before .pre .0)
+mul-from c = omega (arith, c .loop-test .taken, c .before .before .before .before .before .before .before .before .pre .2)
 
 -- src/blocks.rt:37:18
 add-to : tie.Need-add-to Inv-loop μ-loop
-add-to c = omega (arith, c .loop-test .taken, c .before .before .before .before .before .before .before .before .pre .0)
+add-to c = omega (arith, c .loop-test .taken, c .before .before .before .before .before .before .before .before .pre .2)
 
 -- src/blocks.rt:41:13
 sub-print-record : tie.Need-sub-print-record Inv-loop μ-loop
-sub-print-record c = omega (arith, c .before .loop-test .taken, c .before .before .before .before .before .before .before .before .before .pre .0)
+sub-print-record c = omega (arith, c .before .loop-test .taken, c .before .before .before .before .before .before .before .before .before .pre .2)
 
 -- src/blocks.rt:41:13
 part-print-record-start : tie.Need-part-print-record-start Inv-loop μ-loop
-part-print-record-start c = omega (arith, c .before .loop-test .taken, c .before .before .before .before .before .before .before .before .before .pre .0)
+part-print-record-start c = omega (arith, c .before .loop-test .taken, c .before .before .before .before .before .before .before .before .before .pre .2)
 
 -- src/blocks.rt:41:13
 part-print-record-end : tie.Need-part-print-record-end Inv-loop μ-loop
-part-print-record-end c = omega (arith, c .before .loop-test .taken, c .before .before .before .before .before .before .before .before .before .pre .0)
+part-print-record-end c = omega (arith, c .before .loop-test .taken, c .before .before .before .before .before .before .before .before .before .pre .2)
 
 -- src/blocks.rt:39:9
 print-record-requires : tie.Need-print-record-requires Inv-loop μ-loop
-print-record-requires c κs = omega (arith, c .before .before .before .before .before .before .before .before .loop .inv .1, c .before .before .before .before .before .before .before .before .loop .inv .7, c .before .before .before .before .before .before .before .before .before .before .before .before .before .before .before .pre .1, c .before .before .before .before .before .before .before .loop-test .taken)
+print-record-requires c κs = (c .before .before .before .before .before .before .before .before .before .before .before .before .before .before .before .pre .0, c .before .before .before .before .before .before .before .before .before .before .before .before .before .before .before .pre .1, omega (arith, c .before .before .before .before .before .before .before .before .loop .inv .1, c .before .before .before .before .before .before .before .before .loop .inv .7, c .before .before .before .before .before .before .before .before .before .before .before .before .before .before .before .pre .3, c .before .before .before .before .before .before .before .loop-test .taken))
 
 -- src/blocks.rt:49:9
 add-i : tie.Need-add-i Inv-loop μ-loop
@@ -74,7 +74,7 @@ add-i c = omega (arith, c .before .before .before .before .before .before .befor
 
 -- src/blocks.rt:35:5
 loop-less : tie.Need-loop-less Inv-loop μ-loop
-loop-less c = omega (arith, c .before .before .before .before .before .before .before .before .before .before .before .before .before .before .before .before .before .before .loop-test .taken, c .before .before .before .before .before .before .before .before .before .before .before .before .before .before .before .before .before .before .before .before .before .before .before .before .before .before .pre .0)
+loop-less c = omega (arith, c .before .before .before .before .before .before .before .before .before .before .before .before .before .before .before .before .before .before .loop-test .taken, c .before .before .before .before .before .before .before .before .before .before .before .before .before .before .before .before .before .before .before .before .before .before .before .before .before .before .pre .2)
 
 -- src/blocks.rt:35:5
 loop-again : tie.Need-loop-again Inv-loop μ-loop
@@ -83,12 +83,12 @@ loop-again c =
     let k = c .before .before .before .before .before .before .before .before .before .before .print-record .kept in (
       omega (arith, c .before .before .before .before .before .before .before .before .before .before .before .before .before .before .before .before .before .before .loop-test .taken),
       omega (arith, c .before .before .before .before .before .before .before .before .before .before .print-record .ensures .1, l .inv .1),
-      block-turn (c .before .before .before .before .before .before .before .before .before .before .before .before .before .before .before .before .before .before .before .before .before .before .before .before .before .before .args .input .now) (c .before .before .before .before .before .before .before .before .before .before .before .before .before .before .before .before .before .before .before .before .before .before .before .before .before .before .args .count) (l .i) (showing (l .p) (l .memory) (l .plan) (l .replies) (l .deliveries) (l .text)) _ (c .before .before .before .before .before .before .before .before .before .before .before .before .before .before .before .before .before .before .loop-test .taken) (omega (arith, l .inv .1, l .inv .7, c .before .before .before .before .before .before .before .before .before .before .before .before .before .before .before .before .before .before .before .before .before .before .before .before .before .before .pre .1, c .before .before .before .before .before .before .before .before .before .before .before .before .before .before .before .before .before .before .loop-test .taken)) (c .before .before .before .before .before .before .before .before .before .before .print-record .ensures .0) ∙ l .inv .2,
-      k .1 .1 .0 ∙ l .inv .3,
-      k .1 .1 .1 .0 ∙ l .inv .4,
-      k .1 .1 .1 .1 .0 ∙ l .inv .5,
-      k .1 .1 .1 .1 .1 .0 ∙ l .inv .6,
-      k .1 .1 .1 .1 .1 .1 .0 ∙ l .inv .7,
+      block-turn (c .before .before .before .before .before .before .before .before .before .before .before .before .before .before .before .before .before .before .before .before .before .before .before .before .before .before .args .input .now) (c .before .before .before .before .before .before .before .before .before .before .before .before .before .before .before .before .before .before .before .before .before .before .before .before .before .before .args .count) (l .i) (showing (l .p) (l .memory) (l .plan) (l .replies) (l .deliveries) (l .text)) _ (c .before .before .before .before .before .before .before .before .before .before .before .before .before .before .before .before .before .before .loop-test .taken) (omega (arith, l .inv .1, l .inv .7, c .before .before .before .before .before .before .before .before .before .before .before .before .before .before .before .before .before .before .before .before .before .before .before .before .before .before .pre .3, c .before .before .before .before .before .before .before .before .before .before .before .before .before .before .before .before .before .before .loop-test .taken)) (c .before .before .before .before .before .before .before .before .before .before .print-record .ensures .0) ∙ l .inv .2,
+      k .1 .1 .1 .1 .1 .0 ∙ l .inv .3,
+      k .1 .1 .1 .1 .1 .1 .0 ∙ l .inv .4,
+      k .1 .1 .1 .1 .1 .1 .1 .0 ∙ l .inv .5,
+      k .1 .1 .1 .1 .1 .1 .1 .1 .0 ∙ l .inv .6,
+      k .1 .1 .1 .1 .1 .1 .1 .1 .1 .0 ∙ l .inv .7,
     )
 
 -- src/blocks.rt:20:1

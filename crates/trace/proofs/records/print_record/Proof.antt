@@ -8,7 +8,7 @@ use Rattle.trace.proofs.records.print_record.Statement.{statement}
 use Rattle.trace.proofs.records.print_record.Tie as tie
 use Rattle.trace.proofs.records.print_record.Reads as reads
 use Rattle.trace.proofs.records.print_record.Lts as lts
-use Rattle.engine.proofs.frame.Reads as frame-reads
+use Rattle.engine.proofs.frame_by.Reads as frame-by-reads
 use Rattle.engine.proofs.lost.Reads as lost-reads
 use Rattle.trace.proofs.lines.put_bad.Reads as put-bad-reads
 use Rattle.trace.proofs.records.kind_of.Reads as kind-of-reads
@@ -40,31 +40,31 @@ lost-requires c κs = tt
 
 -- src/records.rt:149:13
 print-outcome-requires : tie.Need-print-outcome-requires
-print-outcome-requires c κs = c .before .before .before .before .before .before .before .before .before .before .before .before .before .before .pre
+print-outcome-requires c κs = c .before .before .before .before .before .before .before .before .before .before .before .before .before .before .pre .2
 
 -- src/records.rt:163:38
 enum-told-2 : tie.Need-enum-told-2
 enum-told-2 c = search needs
 
 -- src/records.rt:163:46
-sub-frame : tie.Need-sub-frame
-sub-frame c = omega (arith, frame-whole (c .before .before .before .before .before .before .before .before .before .before .before .before .args .octets .now) (c .before .before .before .kind-of .result) (c .before .before .before .kind-of .ensures) (c .before .enum-told2 .given .1))
+sub-frame-by : tie.Need-sub-frame-by
+sub-frame-by c = omega (arith, frame-whole (c .before .before .before .before .before .before .before .before .before .before .before .before .args .octets .now) (c .before .before .before .kind-of .result) (c .before .before .before .kind-of .ensures) (c .before .enum-told2 .given .1))
 
 -- src/records.rt:163:46
-part-frame-start : tie.Need-part-frame-start
-part-frame-start c = omega (arith, frame-whole (c .before .before .before .before .before .before .before .before .before .before .before .before .args .octets .now) (c .before .before .before .kind-of .result) (c .before .before .before .kind-of .ensures) (c .before .enum-told2 .given .1))
+part-frame-by-start : tie.Need-part-frame-by-start
+part-frame-by-start c = omega (arith, frame-whole (c .before .before .before .before .before .before .before .before .before .before .before .before .args .octets .now) (c .before .before .before .kind-of .result) (c .before .before .before .kind-of .ensures) (c .before .enum-told2 .given .1))
 
 -- src/records.rt:163:46
-part-frame-end : tie.Need-part-frame-end
-part-frame-end c = search needs
+part-frame-by-end : tie.Need-part-frame-by-end
+part-frame-by-end c = search needs
 
 -- src/records.rt:163:17
-frame-requires : tie.Need-frame-requires
-frame-requires c κs = tt
+frame-by-requires : tie.Need-frame-by-requires
+frame-by-requires c κs = (c .before .before .before .before .before .before .before .before .before .before .before .before .before .before .before .before .pre .0, c .before .before .before .before .before .before .before .before .before .before .before .before .before .before .before .before .pre .1)
 
 -- src/records.rt:164:13
 print-outcome-requires-2 : tie.Need-print-outcome-requires-2
-print-outcome-requires-2 c κs = c .before .before .before .before .before .before .before .before .before .before .before .before .before .before .before .before .before .before .before .before .before .before .before .before .before .before .pre
+print-outcome-requires-2 c κs = c .before .before .before .before .before .before .before .before .before .before .before .before .before .before .before .before .before .before .before .before .before .before .before .before .before .before .pre .2
 
 -- src/records.rt:167:51
 enum-told-3 : tie.Need-enum-told-3
@@ -72,7 +72,7 @@ enum-told-3 c = search needs
 
 -- src/records.rt:167:17
 put-bad-requires : tie.Need-put-bad-requires
-put-bad-requires c κs = c .before .before .before .before .before .before .before .before .before .before .before .before .pre
+put-bad-requires c κs = c .before .before .before .before .before .before .before .before .before .before .before .before .pre .2
 
 -- src/records.rt:169:22
 stop-requires : tie.Need-stop-requires
@@ -91,19 +91,19 @@ returns-2 c =
 
 -- src/records.rt:127:1
 same-length-2 : tie.Need-same-length-2
-same-length-2 c = c .before .before .before .before .before .before .before .before .before .before .before .before .frame .kept .1 .0
+same-length-2 c = c .before .before .before .before .before .before .before .before .before .before .before .before .frame-by .kept .1 .1 .1 .1 .0
 
 -- src/records.rt:127:1
 same-length-3 : tie.Need-same-length-3
-same-length-3 c = c .before .before .before .before .before .before .before .before .before .before .before .before .frame .kept .1 .1 .1 .1 .0
+same-length-3 c = c .before .before .before .before .before .before .before .before .before .before .before .before .frame-by .kept .1 .1 .1 .1 .1 .1 .1 .0
 
 -- src/records.rt:127:1
 same-length-4 : tie.Need-same-length-4
-same-length-4 c = c .before .before .before .before .before .before .before .before .before .before .before .before .frame .kept .1 .1 .1 .1 .1 .0
+same-length-4 c = c .before .before .before .before .before .before .before .before .before .before .before .before .frame-by .kept .1 .1 .1 .1 .1 .1 .1 .1 .0
 
 -- src/records.rt:127:1
 same-length-5 : tie.Need-same-length-5
-same-length-5 c = c .before .before .before .before .before .before .before .before .before .before .before .before .frame .kept .1 .1 .1 .1 .1 .1 .0
+same-length-5 c = c .before .before .before .before .before .before .before .before .before .before .before .before .frame-by .kept .1 .1 .1 .1 .1 .1 .1 .1 .1 .0
 
 -- src/records.rt:127:1
 same-length-6 : tie.Need-same-length-6
@@ -114,7 +114,7 @@ returns-3 : tie.Need-returns-3
 returns-3 c =
     let a = c .before .before .before .before .before .before .before .before .before .before .before .before .before .before .before .before .before .before .before .before .before .before .before .before .before .before .before .before .before .args in
     let e = c .before .before .print-outcome2 .ensures in
-    (frame-step (at-start (c .before .before .before .before .before .before .before .before .before .before .before .before .before .before .before .before .before .before .before .before .before .before .before .before .before .before .before .before .before)) (a .octets .now) (c .before .before .before .before .before .before .before .before .before .before .before .before .before .before .before .before .before .before .before .before .kind-of .result) (c .before .before .before .before .before .before .before .before .before .before .before .before .before .before .before .before .before .before .before .before .before .before .if1 .left) (c .before .before .before .before .before .before .before .before .before .before .before .before .before .before .before .before .before .before .before .before .kind-of .ensures) (a .text .now) _ (a .place) _ _ (c .before .before .before .before .before .before .before .before .before .before .before .before .before .before .before .before .before .before .enum-told2 .given .1) (c .before .before .before .before .before .before .before .before .before .before .before .before .frame .result) _ (c .before .before .before .before .before .before .before .before .before .before .before .before .frame .ensures) (e .0) (e .1) (e .2), e .3)
+    (frame-step (at-start (c .before .before .before .before .before .before .before .before .before .before .before .before .before .before .before .before .before .before .before .before .before .before .before .before .before .before .before .before .before)) (a .octets .now) (c .before .before .before .before .before .before .before .before .before .before .before .before .before .before .before .before .before .before .before .before .kind-of .result) (c .before .before .before .before .before .before .before .before .before .before .before .before .before .before .before .before .before .before .before .before .before .before .if1 .left) (c .before .before .before .before .before .before .before .before .before .before .before .before .before .before .before .before .before .before .before .before .kind-of .ensures) (a .text .now) _ (a .place) _ _ (c .before .before .before .before .before .before .before .before .before .before .before .before .before .before .before .before .before .before .enum-told2 .given .1) (c .before .before .before .before .before .before .before .before .before .before .before .before .frame-by .result) _ (c .before .before .before .before .before .before .before .before .before .before .before .before .frame-by .ensures) (e .0) (e .1) (e .2), e .3)
 
 -- src/records.rt:127:1
 same-length-7 : tie.Need-same-length-7
@@ -137,10 +137,10 @@ print-record-spec =
     lost-requires
     print-outcome-requires
     enum-told-2
-    sub-frame
-    part-frame-start
-    part-frame-end
-    frame-requires
+    sub-frame-by
+    part-frame-by-start
+    part-frame-by-end
+    frame-by-requires
     print-outcome-requires-2
     enum-told-3
     put-bad-requires

@@ -1,0 +1,70 @@
+-- `activation::receive_all_by` meets its contract.
+-- Assumes nothing.
+use mathlib.Core.Path.{_≡_, _∙_, ap}
+use native.Mathlib.Omega.{arith}
+use Prim.Native.Nat.{ℕ, _/_}
+use mathlib.Core.List.{List}
+use denote.Ref.{now}
+use lib.ListN.{length}
+use Rattle.aes.specs.Words.{wordsOf, Octets}
+use Rattle.aes.specs.MixTable.{mixTable}
+use Rattle.cmac.specs.ByTable.{preparedBy}
+use Rattle.cmac.specs.declared.Prepared.{Prepared}
+use Rattle.activation.specs.Receiving.{receivedAllBy}
+use Rattle.activation.proofs.Receiving.{each-true, key-is, key-none}
+use borrow.Author.Needs.{needs}
+use Rattle.activation.proofs.receive_all_by.Statement.{statement}
+use Rattle.activation.proofs.receive_all_by.Tie as tie
+
+returns : tie.Need-returns
+returns c =
+    let e : length (now ((c .before .before) .args .messages)) / 48 ≡ 0 = omega arith in
+    rw e
+
+default-key-requires : tie.Need-default-key-requires
+default-key-requires c κs = search needs
+
+prepared-requires : tie.Need-prepared-requires
+prepared-requires c κs = search needs
+
+receive-each-requires : tie.Need-receive-each-requires
+receive-each-requires c κs = search needs
+
+returns-2 : tie.Need-returns-2
+returns-2 c =
+    let a = (c .before .before .before .before .before .before .before .before .before) .args in
+    let b = now (a .messages) in
+    let p = c .before .prepared .result in
+    let o : Octets b = λ i. omega (arith, c .before .before .before .before .before .before .before .before .shared-slice-known .given i) in
+    let ready = c .before .prepared .ensures .0 in
+    let made : p ≡ preparedBy mixTable (wordsOf (a .s .link .key .octets)) = ready .made ∙ ap (λ (t : List ℕ). preparedBy t (wordsOf (a .s .link .key .octets))) ((c .before .before .before .before .before .before .before .before .before) .pre) in
+    c .receive-each .ensures
+    ∙ ap (λ (t : List ℕ). receivedAllBy t (c .before .before .before .before .before .before .default-key .result) p (a .s) b) ((c .before .before .before .before .before .before .before .before .before) .pre)
+    ∙ ap (λ (u : Prepared). receivedAllBy mixTable u p (a .s) b) (c .before .before .before .before .before .before .default-key .ensures)
+    ∙ each-true p b o (length b / 48) 0 (a .s) (key-is p (a .s .link .key) made (ready .octets) (c .before .prepared .ensures .1))
+
+receive-each-requires-2 : tie.Need-receive-each-requires-2
+receive-each-requires-2 c κs = search needs
+
+returns-3 : tie.Need-returns-3
+returns-3 c =
+    let a = (c .before .before .before .before .before .before .before .before) .args in
+    let b = now (a .messages) in
+    let u = c .before .before .before .before .before .default-key .result in
+    let o : Octets b = λ i. omega (arith, c .before .before .before .before .before .before .before .shared-slice-known .given i) in
+    c .receive-each2 .ensures
+    ∙ ap (λ (t : List ℕ). receivedAllBy t u u (a .s) b) ((c .before .before .before .before .before .before .before .before) .pre)
+    ∙ ap (λ (x : Prepared). receivedAllBy mixTable x u (a .s) b) (c .before .before .before .before .before .default-key .ensures)
+    ∙ each-true u b o (length b / 48) 0 (a .s) (key-none u (a .s .link .key) (c .before .if2 .left))
+
+pub receive-all-by-spec : {M : Type 1} → statement M
+receive-all-by-spec =
+    tie.close
+    (tie.spec
+    returns
+    default-key-requires
+    prepared-requires
+    receive-each-requires
+    returns-2
+    receive-each-requires-2
+    returns-3)
