@@ -24,11 +24,16 @@ fn put_decimal(n: u64, text: &mut [u8], at: usize) -> usize
     last + 1
 }
 
-// The number and what ends it.
+// The number and what ends it. Most have one digit.
 fn put_field(n: u64, end: u8, text: &mut [u8], at: usize) -> usize
     requires { ⌜ at + length (field n end) ≤ length (now text) ⌝ }
     ensures { λ r. ⌜ (now (text .exit) ≡ put (now (text .entry)) at (field n end)) × (r ≡ at + length (field n end)) ⌝ }
 {
+    if n < 10 {
+        text[at] = 48 + n as u8;
+        text[at + 1] = end;
+        return at + 2;
+    }
     let last = put_decimal(n, text, at);
     text[last] = end;
     last + 1

@@ -3,11 +3,8 @@ mod blocks;
 mod lines;
 mod records;
 
-ghost use mathlib.Core.Path.{_≡_};
 ghost use Prim.Native.Nat.{_≤_};
 ghost use lib.ListN.{length};
-ghost use Rattle.aes.specs.MixTable.{mixTable};
-ghost use Rattle.bwmap.specs.Tables.{Tables};
 ghost use Rattle.trace.specs.Reads.{Within};
 use libc::STDIN_FILENO;
 use libc::STDOUT_FILENO;
@@ -52,39 +49,15 @@ fn write_out(text: &[u8], n: usize) -> bool
     written
 }
 
-// The input has ended: what was kept is a record that is too short.
-fn finish(
-    syndromes: &[u16; 2048],
-    flips: &[u16; 4096],
-    mix: &[u32; 1024],
-    run: Run,
-    input: &[u8],
-    kept: usize,
-    memory: &mut [u8],
-    plan: &mut [u16],
-    replies: &mut [u8],
-    deliveries: &mut [u8],
-    text: &mut [u8],
-)
-    requires { ⌜ Tables (now syndromes) (now flips) × (now mix ≡ mixTable) × (kept ≤ length (now input)) × (126 ≤ length (now text)) ⌝ }
+// The input has ended: what was kept is a record that is too short, and so a bad one.
+fn finish(run: Run, kept: usize, text: &mut [u8])
+    requires { ⌜ 126 ≤ length (now text) ⌝ }
 {
     if kept == 0 {
         return;
     }
-    let p = records::print_record(
-        syndromes,
-        flips,
-        mix,
-        run,
-        &input[0..kept],
-        memory,
-        plan,
-        replies,
-        deliveries,
-        text,
-        0,
-    );
-    write_out(text, p.place);
+    let place = lines::put_bad(run.number, text, 0);
+    write_out(text, place);
 }
 
 // A proved loop has to end, and nothing says that the input does: the turns are counted down from a number that no run
@@ -129,19 +102,7 @@ fn main() {
                 }
             }
             Got::Ended => {
-                finish(
-                    &syndromes,
-                    &flips,
-                    &mix,
-                    run,
-                    &input,
-                    kept,
-                    &mut memory,
-                    &mut plan,
-                    &mut replies,
-                    &mut deliveries,
-                    &mut text,
-                );
+                finish(run, kept, &mut text);
                 return;
             }
             Got::Failed => {

@@ -136,34 +136,13 @@ loop-again c =
 enum-told : tie.Need-enum-told Inv-loop μ-loop
 enum-told c = search needs
 
--- src/main.rt:137:21
+-- src/main.rt:111:35
 slice-aggregate-finish : tie.Need-slice-aggregate-finish Inv-loop μ-loop
-slice-aggregate-finish c = c .before .before .before .before .before .before .before .before .before .before .loop .inv .1 ∙ sym (c .before .before .before .before .before .before .before .read-on .kept .0)
+slice-aggregate-finish c = c .before .before .before .before .before .before .before .loop .inv .6
 
--- src/main.rt:139:21
-slice-aggregate-finish-2 : tie.Need-slice-aggregate-finish-2 Inv-loop μ-loop
-slice-aggregate-finish-2 c = c .before .before .before .before .before .before .before .before .before .before .before .loop .inv .2
-
--- src/main.rt:140:21
-slice-aggregate-finish-3 : tie.Need-slice-aggregate-finish-3 Inv-loop μ-loop
-slice-aggregate-finish-3 c = c .before .before .before .before .before .before .before .before .before .before .before .before .loop .inv .3
-
--- src/main.rt:141:21
-slice-aggregate-finish-4 : tie.Need-slice-aggregate-finish-4 Inv-loop μ-loop
-slice-aggregate-finish-4 c = c .before .before .before .before .before .before .before .before .before .before .before .before .before .loop .inv .4
-
--- src/main.rt:142:21
-slice-aggregate-finish-5 : tie.Need-slice-aggregate-finish-5 Inv-loop μ-loop
-slice-aggregate-finish-5 c = c .before .before .before .before .before .before .before .before .before .before .before .before .before .before .loop .inv .5
-
--- src/main.rt:143:21
-slice-aggregate-finish-6 : tie.Need-slice-aggregate-finish-6 Inv-loop μ-loop
-slice-aggregate-finish-6 c = c .before .before .before .before .before .before .before .before .before .before .before .before .before .before .before .loop .inv .6
-
--- src/main.rt:132:17
+-- src/main.rt:111:17
 finish-requires : tie.Need-finish-requires Inv-loop μ-loop
-unfolding mixTable
-finish-requires c κs = (record { octets = c .before .before .before .before .before .before .before .before .before .before .before .before .before .before .before .before .before .before .table .ensures; repairs = c .before .before .before .before .before .before .before .before .before .before .before .before .before .before .before .before .before .table2 .ensures }, refl, omega (arith, c .before .before .before .before .before .before .before .before .before .before .before .before .before .before .before .loop .inv .0, c .before .before .before .before .before .before .before .before .before .before .before .before .before .before .before .loop .inv .1, c .before .before .before .before .before .before .before .before .before .before .before .before .read-on .kept .0), omega (arith, c .before .before .before .before .before .before .before .before .before .before .before .before .before .before .before .loop .inv .6))
+finish-requires c κs = omega (arith, c .before .before .before .before .before .before .before .loop .inv .6)
 
 -- src/main.rt:145:17
 returns-3 : tie.Need-returns-3 Inv-loop μ-loop
@@ -210,11 +189,6 @@ main-spec =
     loop-again
     enum-told
     slice-aggregate-finish
-    slice-aggregate-finish-2
-    slice-aggregate-finish-3
-    slice-aggregate-finish-4
-    slice-aggregate-finish-5
-    slice-aggregate-finish-6
     finish-requires
     returns-3
     enum-told-2
