@@ -1,14 +1,18 @@
 -- What is printed does not depend on how the input is cut into reads.
 -- Assumes nothing.
 use mathlib.Core.Path.{_≡_, refl, sym, ap, ap₂, _∙_}
+use mathlib.Core.Bool.{false}
 use mathlib.Core.List.{List, [], _∷_, _++_, append-assoc, append-nil}
+use lib.Dec.{eqb}
+use borrow.Author.Tests.{ne-eqb}
 use Prim.Native.Nat.{ℕ, zero, suc, _+_, _*_, _-_, _/_, _≤_, _<_}
 use native.Mathlib.Omega.{arith}
 use native.Mathlib.Nat.{zero-add}
 use lib.ListN.{length, take, drop, length-drop, length-append}
 use lib.Seq.{take-all, take-at, drop-append-le, drop-drop, length-take-le}
 use Rattle.payload.specs.Memory.{put}
-use Rattle.trace.specs.Records.{records, wholes, wholeRecords, left, recordsOf}
+use Rattle.trace.specs.Lines.{badLine}
+use Rattle.trace.specs.Records.{kindOf, records, wholes, wholeRecords, left, recordsOf}
 use Rattle.trace.specs.Runs.{At, step, after, linesOf, powered, turned, traceOf}
 use Rattle.trace.specs.Sessions.{joined, writtenFrom, writtenOf}
 use Rattle.trace.proofs.Turns.{records-front}
@@ -86,6 +90,13 @@ unfolding recordsOf
 kept-short kept h k =
     let n : (length kept + 1023) / 1024 ≡ 1 = omega arith in
     ap (λ z. records z kept) n ∙ ap (λ z. z ∷ []) (take-all 1024 kept (omega arith))
+
+-- and one that short is bad: what the program prints of it is its line
+pub kept-bad : (p : At) (kept : List ℕ) → p .run .stopped ≡ false → length kept ≤ 1023 → step p kept .line ≡ badLine (p .run .number)
+unfolding step kindOf
+kept-bad p kept going h =
+    let other : eqb (length kept) 1024 ≡ false = ne-eqb (length kept) 1024 (λ e. omega (arith, e, h)) in
+    rw (going, other) refl
 
 pub kept-none : recordsOf [] ≡ []
 unfolding recordsOf
