@@ -45,6 +45,17 @@ unfolding decimal
 decimal-large n h =
     spelled-large n n h ∙ ap (λ d. d ++ ((48 + n % 10) ∷ [])) (spelled-same n (suc (n / 10)) (n / 10) (omega arith) (omega arith))
 
+-- two digits
+pub decimal-two : (n : ℕ) → 10 ≤ n → n < 100 → decimal n ≡ ((48 + n / 10) ∷ []) ++ ((48 + n % 10) ∷ [])
+decimal-two n h k = decimal-large n h ∙ ap (λ d. d ++ ((48 + n % 10) ∷ [])) (decimal-small (n / 10) (omega arith))
+
+-- any longer number is its hundreds and its last two digits
+pub decimal-more : (n : ℕ) → 100 ≤ n → decimal n ≡ decimal (n / 100) ++ ((48 + n / 10 % 10) ∷ []) ++ ((48 + n % 10) ∷ [])
+decimal-more n h =
+    let q : n / 10 / 10 ≡ n / 100 = omega arith in
+    decimal-large n (omega arith)
+    ∙ ap (λ d. d ++ ((48 + n % 10) ∷ [])) (decimal-large (n / 10) (omega arith) ∙ ap (λ m. decimal m ++ ((48 + n / 10 % 10) ∷ [])) q)
+
 -- ---- how many digits
 
 pub length-small : (n : ℕ) → n < 10 → length (decimal n) ≡ 1
@@ -52,6 +63,14 @@ length-small n h = ap length (decimal-small n h)
 
 pub length-large : (n : ℕ) → 10 ≤ n → length (decimal n) ≡ length (decimal (n / 10)) + 1
 length-large n h = ap length (decimal-large n h) ∙ length-append (decimal (n / 10)) ((48 + n % 10) ∷ [])
+
+pub length-two : (n : ℕ) → 10 ≤ n → n < 100 → length (decimal n) ≡ 2
+length-two n h k = ap length (decimal-two n h k)
+
+pub length-more : (n : ℕ) → 100 ≤ n → length (decimal n) ≡ length (decimal (n / 100)) + 2
+length-more n h =
+    let q : n / 10 / 10 ≡ n / 100 = omega arith in
+    omega (arith, length-large n (omega arith), length-large (n / 10) (omega arith), ap (λ m. length (decimal m)) q)
 
 digits-within : (k n : ℕ) → n < 10 ^ suc k → length (decimal n) ≤ suc k
 digits-within zero n h = omega (arith, length-small n h)

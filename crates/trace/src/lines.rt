@@ -10,7 +10,7 @@ const SPACE: u8 = 32;
 
 const NEWLINE: u8 = 10;
 
-// A number in decimal at a place of the text; answers the place behind it.
+// A number in decimal at a place of the text, two digits at a time; answers the place behind it.
 fn put_decimal(n: u64, text: &mut [u8], at: usize) -> usize
     requires { ⌜ at + length (decimal n) ≤ length (now text) ⌝ }
     ensures { λ r. ⌜ (now (text .exit) ≡ put (now (text .entry)) at (decimal n)) × (r ≡ at + length (decimal n)) ⌝ }
@@ -19,9 +19,15 @@ fn put_decimal(n: u64, text: &mut [u8], at: usize) -> usize
         text[at] = 48 + n as u8;
         return at + 1;
     }
-    let last = put_decimal(n / 10, text, at);
-    text[last] = 48 + (n % 10) as u8;
-    last + 1
+    if n < 100 {
+        text[at] = 48 + (n / 10) as u8;
+        text[at + 1] = 48 + (n % 10) as u8;
+        return at + 2;
+    }
+    let last = put_decimal(n / 100, text, at);
+    text[last] = 48 + (n / 10 % 10) as u8;
+    text[last + 1] = 48 + (n % 10) as u8;
+    last + 2
 }
 
 // The number and what ends it. Most have one digit.
