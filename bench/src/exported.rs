@@ -1,5 +1,9 @@
 //! The exported calls as include/lingbarrow.h has them, and the octets of a state of the independent engine.
 
+#[path = "rng.rs"]
+mod rng;
+
+pub use rng::Rng;
 use xgpon_peer::{Activation, Owed, Station};
 
 pub const STATE: usize = 208;
@@ -16,18 +20,6 @@ extern "C" {
     pub fn lingbarrow_remove_port(s: *mut u8, sn: usize, port: u16) -> u8;
     pub fn lingbarrow_give_key(s: *mut u8, sn: usize, k: *const u8, kn: usize) -> u8;
     pub fn lingbarrow_stretch(s: *const u8, sn: usize, f: *const u8, f_n: usize, k: usize, p: *mut usize, pn: usize) -> u8;
-}
-
-/// A small generator of numbers, the same in every run.
-pub struct Rng(pub u64);
-
-impl Rng {
-    pub fn next(&mut self) -> u64 {
-        self.0 ^= self.0 << 13;
-        self.0 ^= self.0 >> 7;
-        self.0 ^= self.0 << 17;
-        self.0
-    }
 }
 
 /// The one form of a state, by the table of crates/layout/specs/Layout.antt.

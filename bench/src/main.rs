@@ -9,7 +9,9 @@ mod headers;
 mod map;
 mod messages;
 mod payload;
+mod rng;
 
+pub use rng::Rng;
 use std::hint::black_box;
 use std::time::Instant;
 
@@ -37,17 +39,7 @@ pub fn compare(name: &str, count: usize, peer: impl FnMut(), ours: impl FnMut())
     println!("{name:<36} {peer:>9.2} {ours:>9.2} {:>7.2}", ours / peer);
 }
 
-/// A small generator of numbers, the same in every run.
-pub struct Rng(pub u64);
-
 impl Rng {
-    pub fn next(&mut self) -> u64 {
-        self.0 ^= self.0 << 13;
-        self.0 ^= self.0 >> 7;
-        self.0 ^= self.0 << 17;
-        self.0
-    }
-
     /// Two different numbers below `n`.
     pub fn two(&mut self, n: u64) -> (u64, u64) {
         let a = self.next() % n;
