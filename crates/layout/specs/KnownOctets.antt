@@ -18,7 +18,7 @@ activationKnown c = eqb (stateNumber (activationOf c)) (value (part 0 1 c)) && e
 abbrev pub markKnown : ℕ → Bool
 markKnown number = leb number 1
 
--- a Registration is 0, an Acknowledgement its completion code plus 1; 11.3.4.4 has no code 2
+-- a Registration is 0, an Acknowledgement its completion code plus 1; code 2, busy (11.3.4.4), is never sent
 abbrev pub answerKnown : ℕ → Bool
 answerKnown number = leb number 6 && not (eqb number 3)
 

@@ -29,7 +29,7 @@ fn mark_known(number: u8) -> bool
     number <= 1
 }
 
-// 11.3.4.4 has no completion code 2.
+// Completion code 2, busy (11.3.4.4), is never owed: the paper does not send it.
 fn answer_known(number: u8) -> bool
     ensures { λ r. ⌜ r ≡ answerKnown number ⌝ }
 {
