@@ -21,13 +21,13 @@ use Rattle.ranges.specs.Ranges.{portsFit, emptySlot, partialFits, slotFits, par
 use Rattle.conduct.proofs.Valid.{both}
 use Rattle.conduct.proofs.Lists.{every-get, every-make}
 use Rattle.conduct.proofs.Slots.{all-wait}
-use Rattle.payload.specs.declared.fragments.Effect.{Effect}
-use Rattle.payload.specs.declared.fragments.Effect.the-variants.{Nothing, Discard, Deliver, Append}
-use Rattle.payload.specs.Fragments.{behind, slotIn, slotOf, atSlot, atPlace, effectOf, after}
+use Rattle.fragments.specs.declared.Effect.{Effect}
+use Rattle.fragments.specs.declared.Effect.the-variants.{Nothing, Discard, Deliver, Append}
+use Rattle.fragments.specs.Fragments.{behind, slotIn, slotOf, atSlot, atPlace, effectOf}
+use Rattle.fragments.proofs.Effects.{slot-below}
 use Rattle.payload.specs.Frames.{Xgem, parse}
-use Rattle.payload.specs.Memory.{Receiver, taken, done, step}
+use Rattle.payload.specs.Memory.{Receiver, after, taken, done, step}
 use Rattle.payload.specs.Walk.{steps, endedBy, leftBy, walkOf}
-use Rattle.payload.proofs.Effects.{slot-below}
 
 pub record Fine (p : Ports) : Type 0 where
   pub ids : length (p .ids) ≡ addedPorts

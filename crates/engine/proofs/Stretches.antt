@@ -17,14 +17,15 @@ use Rattle.framing.specs.Layouts.{payloadSize}
 use Rattle.framing.proofs.Frames.{covers}
 use Rattle.station.specs.declared.Station.{Station}
 use Rattle.station.specs.declared.slots.Ports.{Ports}
-use Rattle.payload.specs.declared.fragments.Effect.{Effect}
-use Rattle.payload.specs.declared.fragments.Effect.the-variants.{Nothing, Discard, Deliver, Append}
+use Rattle.fragments.specs.declared.Effect.{Effect}
+use Rattle.fragments.specs.declared.Effect.the-variants.{Nothing, Discard, Deliver, Append}
+use Rattle.fragments.specs.Fragments.{effectOf}
 use Rattle.payload.specs.declared.frames.Next.{Next}
 use Rattle.payload.specs.declared.frames.Next.the-variants.{Done as NoMore, Lost, Frame}
 use Rattle.payload.specs.declared.alone.Extent.{Extent}
 use Rattle.payload.specs.declared.alone.StretchPlace as found
-use Rattle.payload.specs.Fragments.{effectOf, after}
 use Rattle.payload.specs.Frames.{Xgem, nextOf, parse}
+use Rattle.payload.specs.Memory.{after}
 use Rattle.payload.specs.Stretch.{noExtent, aloneAt, stretches, stretchOf, cutOut}
 use Rattle.engine.specs.Partitions.{headerEnd, payloadOf}
 use Rattle.engine.specs.Frame.{isOperating}

@@ -11,16 +11,17 @@ use lib.Seq.{length-take-le}
 use Rattle.ids.specs.declared.PortId.{PortId}
 use Rattle.framing.proofs.Numbers.{octets-length}
 use Rattle.station.specs.Limits.{slots, slotBytes}
-use Rattle.payload.specs.declared.fragments.Effect.{Effect}
-use Rattle.payload.specs.declared.fragments.Effect.the-variants.{Nothing, Discard, Deliver, Append}
-use Rattle.payload.specs.Fragments.{effectOf, after}
+use Rattle.fragments.specs.declared.Effect.{Effect}
+use Rattle.fragments.specs.declared.Effect.the-variants.{Nothing, Discard, Deliver, Append}
+use Rattle.fragments.specs.Fragments.{effectOf}
+use Rattle.fragments.specs.Within.{Within}
+use Rattle.fragments.proofs.Effects.{effect-within}
 use Rattle.payload.specs.Frames.{Xgem}
-use Rattle.payload.specs.Memory.{Receiver, put, delivery, partial, memoryAfter, deliveriesAfter, bytesAfter, done, taken, step}
-use Rattle.payload.specs.Bounds.{Within, Ready}
+use Rattle.payload.specs.Memory.{Receiver, after, put, delivery, partial, memoryAfter, deliveriesAfter, bytesAfter, done, taken, step}
+use Rattle.payload.specs.Bounds.{Ready}
 use Rattle.payload.specs.Walk.{steps}
 use Rattle.payload.specs.Deliveries.{deliveryOf, deliveriesOf}
 use Rattle.payload.proofs.Put.{put-put}
-use Rattle.payload.proofs.Effects.{effect-within}
 use Rattle.payload.proofs.Steps.{ready-less, ready-step, length-partial, length-delivery}
 
 put-nothing : (d : List ℕ) (at : ℕ) → put d at [] ≡ d

@@ -16,7 +16,7 @@ use Rattle.payload.specs.declared.walk.Delineation.the-variants.{Unfit}
 use Rattle.payload.specs.Memory.{Receiver}
 use Rattle.payload.specs.Bounds.{Ready, total}
 use Rattle.payload.specs.Walk.{Walked, memoryBytes, allWithin, fit, walkOf, receiveOf}
-use Rattle.payload.proofs.Effects.{each-within, total-le}
+use Rattle.payload.proofs.Lengths.{each-within, total-le}
 
 abbrev pub walked : List ℕ → List ℕ → Received → Walked
 walked memory deliveries r = record { receiver = record { ports = r .ports; bytes = r .bytes; memory = memory; deliveries = deliveries }; delineation = r .delineation }

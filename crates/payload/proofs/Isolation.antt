@@ -16,12 +16,12 @@ use Rattle.framing.specs.Reads.{Found, taken as taken-fields, short, readXgem}
 use Rattle.station.specs.declared.held.Place.{Place}
 use Rattle.station.specs.declared.held.Place.the-variants.{Nowhere}
 use Rattle.station.specs.declared.slots.Ports.{Ports}
-use Rattle.payload.specs.declared.fragments.Effect.{Effect}
-use Rattle.payload.specs.declared.fragments.Effect.the-variants.{Nothing}
+use Rattle.fragments.specs.declared.Effect.{Effect}
+use Rattle.fragments.specs.declared.Effect.the-variants.{Nothing}
+use Rattle.fragments.specs.Fragments.{slotIn, slotOf, atPlace, effectOf}
 use Rattle.payload.specs.declared.frames.Next.the-variants.{Frame}
-use Rattle.payload.specs.Fragments.{slotIn, slotOf, atPlace, effectOf, after}
 use Rattle.payload.specs.Frames.{ahead, nextOf}
-use Rattle.payload.specs.Memory.{Receiver, taken, done, memoryAfter, deliveriesAfter, bytesAfter}
+use Rattle.payload.specs.Memory.{Receiver, after, taken, done, memoryAfter, deliveriesAfter, bytesAfter}
 use Rattle.payload.specs.Walk.{walkOf}
 use Rattle.payload.specs.Alike.{Alike, equal, past}
 use Rattle.payload.proofs.Steps.{ids-after}

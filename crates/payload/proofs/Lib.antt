@@ -1,6 +1,5 @@
 pub mod Put
-pub mod Effects
-pub mod Marked
+pub mod Lengths
 pub mod Steps
 pub mod Reading
 pub mod Walks

@@ -15,14 +15,14 @@ use Rattle.ids.specs.declared.PortId.{PortId}
 use Rattle.framing.specs.declared.xgem.XgemHeader.{XgemHeader}
 use Rattle.framing.specs.Layouts.{payloadSize}
 use Rattle.framing.proofs.Frames.{covers}
-use Rattle.payload.specs.declared.fragments.Effect.{Effect}
-use Rattle.payload.specs.declared.fragments.Effect.the-variants.{Nothing, Discard, Deliver, Append}
+use Rattle.fragments.specs.declared.Effect.{Effect}
+use Rattle.fragments.specs.declared.Effect.the-variants.{Nothing, Discard, Deliver, Append}
+use Rattle.fragments.specs.Fragments.{effectOf}
 use Rattle.payload.specs.declared.frames.Next.{Next}
 use Rattle.payload.specs.declared.frames.Next.the-variants.{Done, Lost, Frame}
 use Rattle.payload.specs.declared.alone.Extent.{Extent}
-use Rattle.payload.specs.Fragments.{effectOf, after}
 use Rattle.payload.specs.Frames.{Xgem, nextOf, Parsed, ended, with, frameOf, parse}
-use Rattle.payload.specs.Memory.{Receiver, partial, taken, done, step}
+use Rattle.payload.specs.Memory.{Receiver, after, partial, taken, done, step}
 use Rattle.payload.specs.Stretch.{noExtent, aloneAt, stretches, stretchOf, sduOf, sdus}
 use Rattle.payload.proofs.Walks.{frame-inside, parse-done, parse-lost, parse-next}
 

@@ -25,12 +25,12 @@ use Rattle.framing.proofs.RoundTrips.{frame-mended, octets-bytes}
 use Rattle.station.specs.declared.held.Place.{Place}
 use Rattle.station.specs.declared.held.Place.the-variants.{At}
 use Rattle.station.specs.Limits.{slots, slotBytes}
-use Rattle.payload.specs.declared.fragments.Effect.{Effect}
-use Rattle.payload.specs.declared.fragments.Effect.the-variants.{Nothing, Discard, Deliver, Append}
+use Rattle.fragments.specs.declared.Effect.{Effect}
+use Rattle.fragments.specs.declared.Effect.the-variants.{Nothing, Discard, Deliver, Append}
+use Rattle.fragments.specs.Fragments.{slotOf, atSlot, atPlace, effectOf}
 use Rattle.payload.specs.declared.frames.Next.the-variants.{Frame}
-use Rattle.payload.specs.Fragments.{slotOf, atSlot, atPlace, effectOf, after}
 use Rattle.payload.specs.Frames.{nextOf}
-use Rattle.payload.specs.Memory.{Receiver, put, delivery, partial, memoryAfter, deliveriesAfter, bytesAfter, done, taken}
+use Rattle.payload.specs.Memory.{Receiver, after, put, delivery, partial, memoryAfter, deliveriesAfter, bytesAfter, done, taken}
 use Rattle.payload.specs.Bounds.{Ready}
 use Rattle.payload.specs.Walk.{memoryBytes, walkOf}
 use Rattle.payload.specs.Deliveries.{joined, fragmentHeader, written, sent}

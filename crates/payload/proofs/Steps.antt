@@ -12,14 +12,16 @@ use Rattle.framing.specs.Octets.{octets}
 use Rattle.framing.proofs.Numbers.{octets-length}
 use Rattle.station.specs.declared.slots.Ports.{Ports}
 use Rattle.station.specs.Limits.{slots, slotBytes}
-use Rattle.payload.specs.declared.fragments.Effect.{Effect}
-use Rattle.payload.specs.declared.fragments.Effect.the-variants.{Nothing, Discard, Deliver, Append}
-use Rattle.payload.specs.Fragments.{effectOf, after}
-use Rattle.payload.specs.Memory.{Receiver, put, delivery, partial, memoryAfter, deliveriesAfter, bytesAfter, done, taken}
-use Rattle.payload.specs.Bounds.{Within, total, Ready}
+use Rattle.fragments.specs.declared.Effect.{Effect}
+use Rattle.fragments.specs.declared.Effect.the-variants.{Nothing, Discard, Deliver, Append}
+use Rattle.fragments.specs.Fragments.{effectOf}
+use Rattle.fragments.specs.Within.{Within}
+use Rattle.fragments.proofs.Effects.{effect-within}
+use Rattle.payload.specs.Memory.{Receiver, after, put, delivery, partial, memoryAfter, deliveriesAfter, bytesAfter, done, taken}
+use Rattle.payload.specs.Bounds.{total, Ready}
 use Rattle.payload.specs.Walk.{memoryBytes}
 use Rattle.payload.proofs.Put.{put-put, length-put, put-onto, put-before, put-after}
-use Rattle.payload.proofs.Effects.{effect-within, total-set, one-of-total, lengths-set}
+use Rattle.payload.proofs.Lengths.{total-set, one-of-total, lengths-set}
 
 -- a delivery, put in three pieces
 pub delivered : (d : List ℕ) (at n : ℕ) (port : PortId) (part body : List ℕ) → at ≤ length d → n ≡ length part + length body

@@ -17,15 +17,16 @@ use Rattle.framing.specs.Layouts.{payloadSize}
 use Rattle.framing.proofs.Frames.{covers}
 use Rattle.station.specs.declared.slots.Ports.{Ports}
 use Rattle.station.specs.Limits.{addedPorts}
-use Rattle.payload.specs.declared.fragments.Effect.{Effect}
-use Rattle.payload.specs.declared.fragments.Effect.the-variants.{Nothing, Discard, Deliver, Append}
+use Rattle.fragments.specs.declared.Effect.{Effect}
+use Rattle.fragments.specs.declared.Effect.the-variants.{Nothing, Discard, Deliver, Append}
+use Rattle.fragments.specs.Fragments.{effectOf}
 use Rattle.payload.specs.declared.frames.Next.the-variants.{Done, Lost, Frame}
 use Rattle.payload.specs.declared.alone.Extent.{Extent}
 use Rattle.payload.specs.declared.alone.Seek.{Seek}
 use Rattle.payload.specs.declared.alone.Seek.the-variants.{Ahead, Found}
 use Rattle.payload.specs.declared.alone.StretchPlace.{StretchPlace}
-use Rattle.payload.specs.Fragments.{effectOf, after}
 use Rattle.payload.specs.Frames.{Xgem, nextOf, Parsed, ended, with, frameOf, parse}
+use Rattle.payload.specs.Memory.{after}
 use Rattle.payload.specs.Stretch.{noExtent, aloneAt, stretches, stretchIn, stretchOf, sought, settled}
 use Rattle.payload.proofs.Steps.{ids-after}
 use Rattle.payload.proofs.Walks.{frame-inside, parse-done, parse-lost, parse-next}

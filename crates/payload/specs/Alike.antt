@@ -9,8 +9,8 @@ use Rattle.ids.specs.declared.PortId.{PortId}
 use Rattle.framing.specs.declared.xgem.XgemHeader.{XgemHeader}
 use Rattle.framing.specs.Layouts.{payloadSize}
 use Rattle.station.specs.declared.held.Place.the-variants.{Nowhere}
+use Rattle.fragments.specs.Fragments.{slotIn}
 use Rattle.payload.specs.declared.frames.Next.the-variants.{Frame}
-use Rattle.payload.specs.Fragments.{slotIn}
 use Rattle.payload.specs.Frames.{nextOf}
 
 -- equal; or the same header and as many bytes, then a frame whose port has no slot or whose bytes are equal, and alike again

@@ -7,9 +7,9 @@ use lib.ListN.{length}
 use Rattle.ids.specs.declared.PortId.{PortId}
 use Rattle.framing.specs.declared.xgem.XgemHeader.{XgemHeader}
 use Rattle.framing.specs.Writes.{carrying, xgemFrame}
-use Rattle.payload.specs.declared.fragments.Effect.{Effect}
-use Rattle.payload.specs.declared.fragments.Effect.the-variants.{Nothing, Discard, Deliver, Append}
-use Rattle.payload.specs.Fragments.{effectOf}
+use Rattle.fragments.specs.declared.Effect.{Effect}
+use Rattle.fragments.specs.declared.Effect.the-variants.{Nothing, Discard, Deliver, Append}
+use Rattle.fragments.specs.Fragments.{effectOf}
 use Rattle.payload.specs.Frames.{Xgem}
 use Rattle.payload.specs.Memory.{Receiver, delivery, partial, step}
 

@@ -1,5 +1,3 @@
-pub mod Fragments
-pub mod Marks
 pub mod Frames
 pub mod Memory
 pub mod Walk

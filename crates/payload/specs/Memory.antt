@@ -1,16 +1,17 @@
 -- What one XGEM frame does to the ports, the port memory and the deliveries.
 -- Assumes nothing.
-use mathlib.Core.Bool.{Bool}
+use mathlib.Core.Bool.{Bool, false}
 use mathlib.Core.List.{List, _++_}
 use Prim.Native.Nat.{ℕ, _+_, _*_}
-use lib.ListN.{length, take, drop}
+use lib.ListN.{length, take, drop, set}
 use Rattle.ids.specs.declared.PortId.{PortId}
 use Rattle.framing.specs.Octets.{octets}
 use Rattle.station.specs.Limits.{slotBytes}
+use Rattle.station.specs.Slots.{dropOne}
 use Rattle.station.specs.declared.slots.Ports.{Ports}
-use Rattle.payload.specs.declared.fragments.Effect.{Effect}
-use Rattle.payload.specs.declared.fragments.Effect.the-variants.{Nothing, Discard, Deliver, Append}
-use Rattle.payload.specs.Fragments.{effectOf, after}
+use Rattle.fragments.specs.declared.Effect.{Effect}
+use Rattle.fragments.specs.declared.Effect.the-variants.{Nothing, Discard, Deliver, Append}
+use Rattle.fragments.specs.Fragments.{effectOf}
 use Rattle.payload.specs.Frames.{Xgem}
 
 -- all that a frame can change
@@ -20,6 +21,13 @@ pub record Receiver : Type 0 where
   pub bytes : ℕ
   pub memory : List ℕ
   pub deliveries : List ℕ
+
+-- the ports after an effect of n bytes
+abbrev pub after : Ports → Effect → ℕ → Ports
+after p Nothing n = p
+after p (Discard slot waits) n = dropOne p slot waits
+after p (Deliver slot have) n = dropOne p slot false
+after p (Append slot have) n = record { ids = p .ids; lengths = set (p .lengths) slot (have + n); waiting = p .waiting }
 
 -- a list with s from a place on
 unfoldable pub put : List ℕ → ℕ → List ℕ → List ℕ

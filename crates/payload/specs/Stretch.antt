@@ -7,15 +7,15 @@ use lib.Dec.{eqb, leb}
 use lib.ListN.{length, getD, take, drop}
 use Rattle.ids.specs.declared.PortId.{PortId}
 use Rattle.station.specs.declared.slots.Ports.{Ports}
-use Rattle.payload.specs.declared.fragments.Effect.{Effect}
-use Rattle.payload.specs.declared.fragments.Effect.the-variants.{Nothing, Discard, Deliver, Append}
+use Rattle.fragments.specs.declared.Effect.{Effect}
+use Rattle.fragments.specs.declared.Effect.the-variants.{Nothing, Discard, Deliver, Append}
+use Rattle.fragments.specs.Fragments.{effectOf}
 use Rattle.payload.specs.declared.alone.Extent.{Extent}
 use Rattle.payload.specs.declared.alone.Seek.{Seek}
 use Rattle.payload.specs.declared.alone.Seek.the-variants.{Ahead, Found}
 use Rattle.payload.specs.declared.alone.StretchPlace.{StretchPlace}
-use Rattle.payload.specs.Fragments.{effectOf, after}
 use Rattle.payload.specs.Frames.{Xgem, Parsed, parse}
-use Rattle.payload.specs.Memory.{Receiver, partial, step}
+use Rattle.payload.specs.Memory.{Receiver, after, partial, step}
 
 -- the empty stretch
 abbrev pub noExtent : Extent

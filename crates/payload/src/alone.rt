@@ -2,12 +2,13 @@
 ghost use mathlib.Core.Path.{_≡_};
 ghost use lib.ListN.{length};
 ghost use Rattle.hec.specs.Lent.{Syndromes, Flips};
+ghost use Rattle.fragments.specs.Within.{Within};
 ghost use Rattle.payload.specs.Frames.{nextOf};
 ghost use Rattle.payload.specs.Inside.{Inside};
+ghost use Rattle.payload.specs.Memory.{after};
 ghost use Rattle.payload.specs.Stretch.{noExtent, sought, settled, stretchOf, cutOut};
-use super::fragments;
-use super::fragments::Effect;
 use super::frames::Next;
+use fragments::Effect;
 use framing::xgem;
 use framing::xgem::XgemRead;
 use ids::PortId;
@@ -103,6 +104,22 @@ fn next_ahead(syndromes: &[u16; 2048], flips: &[u16; 4096], left: &[u8]) -> Next
     }
 }
 
+fn moved(ports: Ports, effect: Effect, n: usize) -> Ports
+    requires { ⌜ Within ports effect n ⌝ }
+    ensures { λ r. ⌜ r ≡ after ports effect n ⌝ }
+{
+    match effect {
+        Effect::Nothing => ports,
+        Effect::Discard(slot, waits) => ports.drop_one(slot, waits),
+        Effect::Deliver(slot, _) => ports.drop_one(slot, false),
+        Effect::Append(slot, have) => {
+            let mut next = ports;
+            next.lengths[slot] = (have + n) as u16;
+            next
+        }
+    }
+}
+
 // The stretch of delivery k, counted from 0, by its place in the payload: the empty one where the SDU came in several
 // fragments or there is no such delivery.
 pub fn stretch_place(ports: Ports, own: PortId, payload: &[u8], k: usize) -> StretchPlace
@@ -126,9 +143,9 @@ pub fn stretch_place(ports: Ports, own: PortId, payload: &[u8], k: usize) -> Str
                 let body = at + 8;
                 let n = x.pli as usize;
                 let port = x.port;
-                let effect = fragments::effect_of(held, own, port, x.last, n);
+                let effect = fragments::effect_of(held, own, port, x.last, x.pli);
                 seek = seek_on(seek, effect, body, n);
-                held = fragments::moved(held, effect, n);
+                held = moved(held, effect, n);
                 at = body + xgem::payload_size(x.pli);
             }
         }

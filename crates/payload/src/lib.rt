@@ -1,6 +1,5 @@
 // The payload of a downstream frame (clauses 9.1 to 9.3): XGEM frames are walked, fragments put together, SDUs delivered.
 mod alone;
-mod fragments;
 mod frames;
 mod memory;
 mod walk;

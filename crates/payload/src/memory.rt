@@ -5,8 +5,7 @@ ghost use Prim.Native.Nat.{ℕ, _+_, _≤_};
 ghost use lib.ListN.{length, take};
 ghost use Rattle.payload.specs.Memory.{put, delivery, taken};
 ghost use Rattle.payload.specs.Bounds.{Ready};
-use super::fragments;
-use super::fragments::Effect;
+use fragments::Effect;
 use ids::PortId;
 use station::limits::SLOT_BYTES;
 
@@ -90,7 +89,7 @@ pub(crate) fn take_frame(
     ensures { λ r. ⌜ record { ports = record { ids = ids; lengths = now (lengths .exit); waiting = now (waiting .exit) }; bytes = r; memory = now (memory .exit); deliveries = now (deliveries .exit) } ≡ taken own (record { ports = record { ids = ids; lengths = now (lengths .entry); waiting = now (waiting .entry) }; bytes = bytes; memory = now (memory .entry); deliveries = now (deliveries .entry) }) port last (now (body .entry)) ⌝ }
 {
     let n = body.len();
-    let effect = fragments::effect_in(ids, lengths, waiting, own, port, last, n);
+    let effect = fragments::effect_in(ids, lengths, waiting, own, port, last, n as u16);
     match effect {
         Effect::Nothing => bytes,
         Effect::Discard(slot, waits) => {

@@ -9,9 +9,9 @@ use borrow.Author.Needs.{needs}
 use lib.ListN.{length, take, drop, length-map}
 use Rattle.framing.specs.Layouts.{payloadSize}
 use Rattle.station.specs.Limits.{addedPorts}
+use Rattle.fragments.proofs.Effects.{effect-within}
 use Rattle.payload.specs.declared.frames.Next.the-variants.{Frame}
 use Rattle.payload.specs.Frames.{nextOf}
-use Rattle.payload.proofs.Effects.{effect-within}
 use Rattle.payload.proofs.Walks.{Numbers, numbers-of, rest-part}
 use Rattle.payload.proofs.Stretches.{Seen, seen-start, seen-done, seen-lost, seen-on}
 use Rattle.payload.proofs.alone.stretch_place.Statement.{statement}
@@ -98,7 +98,7 @@ cast-n : tie.Need-cast-n Inv-loop μ-loop
 cast-n c = omega (arith, numbers (c .before))
 
 effect-of-requires : tie.Need-effect-of-requires Inv-loop μ-loop
-effect-of-requires c κs = omega (arith, numbers (c .before .before))
+effect-of-requires c κs = search needs
 
 seek-on-requires : tie.Need-seek-on-requires Inv-loop μ-loop
 seek-on-requires c κs = search needs

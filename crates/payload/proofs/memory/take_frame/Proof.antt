@@ -13,15 +13,19 @@ use lib.Seq.{take-length, set-getD}
 use Rattle.ids.specs.declared.PortId.{PortId}
 use Rattle.station.specs.declared.slots.Ports.{Ports}
 use Rattle.station.specs.Limits.{slots, slotBytes}
-use Rattle.payload.specs.Fragments.{after}
-use Rattle.payload.specs.Memory.{Receiver, put, delivery, partial, memoryAfter, deliveriesAfter, bytesAfter, taken}
-use Rattle.payload.specs.Bounds.{Within, total, Ready}
+use Rattle.fragments.specs.Within.{Within}
+use Rattle.fragments.proofs.Effects.{effect-within, effect-clear}
+use Rattle.payload.specs.Memory.{Receiver, after, put, delivery, partial, memoryAfter, deliveriesAfter, bytesAfter, taken}
+use Rattle.payload.specs.Bounds.{total, Ready}
 use Rattle.payload.proofs.Put.{part-put}
-use Rattle.payload.proofs.Effects.{effect-within, effect-clear, one-of-total}
+use Rattle.payload.proofs.Lengths.{one-of-total}
 use Rattle.payload.proofs.Steps.{stepped}
 use borrow.Author.Needs.{needs}
 use Rattle.payload.proofs.memory.take_frame.Statement.{statement}
 use Rattle.payload.proofs.memory.take_frame.Tie as tie
+
+cast-effect-in : tie.Need-cast-effect-in
+cast-effect-in c = search needs
 
 effect-in-requires : tie.Need-effect-in-requires
 effect-in-requires c κs = search needs
@@ -231,6 +235,7 @@ pub take-frame-spec : {M : Type 1} → statement M
 take-frame-spec =
     tie.close
     (tie.spec
+    cast-effect-in
     effect-in-requires
     enum-told
     enum-known-effect

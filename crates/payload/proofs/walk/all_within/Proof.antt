@@ -7,7 +7,7 @@ use native.Mathlib.Omega.{arith}
 use borrow.Author.Needs.{needs}
 use lib.ListN.{length, drop}
 use Rattle.payload.specs.Walk.{allWithin}
-use Rattle.payload.proofs.Effects.{within-hit, within-miss, within-end}
+use Rattle.payload.proofs.Lengths.{within-hit, within-miss, within-end}
 use Rattle.payload.proofs.walk.all_within.Statement.{statement}
 use Rattle.payload.proofs.walk.all_within.Tie as tie
 

@@ -1,0 +1,182 @@
+// What a fragment does to the port that it is for. The decision is apart from the effect: it needs the ports alone.
+ghost use mathlib.Core.Path.{_≡_};
+ghost use mathlib.Core.Bool.{cond};
+ghost use mathlib.Core.List.{[]};
+ghost use Prim.Native.Nat.{_+_, _≤_, _<_};
+ghost use Rattle.ids.specs.Ids.{samePort};
+ghost use Rattle.station.specs.Limits.{slots, addedPorts};
+ghost use Rattle.station.specs.Lists.{Below, placeFrom};
+ghost use Rattle.fragments.specs.Fragments.{behind, slotIn, slotOf, atSlot, atPlace, effectOf};
+ghost use Rattle.fragments.specs.Marks.{marks};
+use ids::PortId;
+use station::held::Place;
+use station::limits::SLOT_BYTES;
+use station::slots::ADDED_PORTS;
+use station::slots::Ports;
+
+pub enum Effect {
+    Nothing,
+    // the slot's partial is dropped, and its port waits or not
+    Discard(usize, bool),
+    // the slot's partial of so many bytes and the fragment are delivered
+    Deliver(usize, usize),
+    // the fragment is added to the slot's partial of so many bytes
+    Append(usize, usize),
+}
+
+// The mark of a place in a sum: 256, and the place.
+fn mark(hit: bool, place: u16) -> u16
+    requires { ⌜ place < addedPorts ⌝ }
+    ensures { λ r. ⌜ (r ≡ cond hit (256 + place) 0) × (r ≤ 271) ⌝ }
+{
+    if hit { 256 + place } else { 0 }
+}
+
+// All sixteen ports are compared, without a branch: which port comes next is nothing to be guessed.
+fn marks_of(ids: [PortId; 16], id: PortId) -> u16
+    ensures { λ r. ⌜ r ≡ marks (samePort id) 0 ids ⌝ }
+{
+    let mut sum: u16 = 0;
+    let mut i: u16 = 0;
+    while i < 16 {
+        let place = i as usize;
+        let other = ids[place];
+        sum = sum + mark(id.is(other), i);
+        i += 1;
+    }
+    sum
+}
+
+fn first_place(ids: [PortId; 16], id: PortId) -> Place
+    ensures { λ r. ⌜ r ≡ placeFrom (samePort id) 0 ids ⌝ }
+{
+    let mut i: usize = 0;
+    while i < ADDED_PORTS {
+        let other = ids[i];
+        if id.is(other) {
+            return Place::At(i);
+        }
+        i += 1;
+    }
+    Place::Nowhere
+}
+
+// The ports that a station holds differ, so that a sum of two marks is met in no frame.
+fn place_in(ids: [PortId; 16], id: PortId) -> Place
+    ensures { λ r. ⌜ r ≡ placeFrom (samePort id) 0 ids ⌝ }
+{
+    let sum = marks_of(ids, id);
+    if sum < 256 {
+        return Place::Nowhere;
+    }
+    if sum < 512 {
+        return Place::At((sum - 256) as usize);
+    }
+    first_place(ids, id)
+}
+
+fn behind(place: Place) -> Place
+    requires { ⌜ Below place addedPorts ⌝ }
+    ensures { λ r. ⌜ (r ≡ behind place) × (Below r slots) ⌝ }
+{
+    match place {
+        Place::At(i) => Place::At(i + 1),
+        Place::Nowhere => Place::Nowhere,
+    }
+}
+
+fn management(own: PortId, port: PortId) -> Place
+    ensures { λ r. ⌜ (r ≡ cond (samePort port own) (Place.At 0) Place.Nowhere) × (Below r slots) ⌝ }
+{
+    if port.is(own) {
+        Place::At(0)
+    } else {
+        Place::Nowhere
+    }
+}
+
+fn slot_in(ids: [PortId; 16], own: PortId, port: PortId) -> Place
+    ensures { λ r. ⌜ (r ≡ slotIn ids own port) × (Below r slots) ⌝ }
+{
+    if port.is_assignable() {
+        behind(place_in(ids, port))
+    } else {
+        management(own, port)
+    }
+}
+
+fn at_slot(slot: usize, waits: bool, have: usize, last: bool, n: usize) -> Effect
+    requires { ⌜ (have ≤ 65535) × (n ≤ 65535) ⌝ }
+    ensures { λ r. ⌜ r ≡ atSlot slot waits have last n ⌝ }
+{
+    if waits {
+        return Effect::Discard(slot, !last);
+    }
+    if SLOT_BYTES < have + n {
+        let then_waits = !last;
+        return Effect::Discard(slot, then_waits);
+    }
+    if last {
+        return Effect::Deliver(slot, have);
+    }
+    Effect::Append(slot, have)
+}
+
+fn wide(x: u16) -> usize
+    ensures { λ r. ⌜ (r ≡ x) × (r ≤ 65535) ⌝ }
+{
+    x as usize
+}
+
+fn at_place(lengths: &[u16; 17], waiting: &[bool; 17], slot: Place, last: bool, n: u16) -> Effect
+    requires { ⌜ Below slot slots ⌝ }
+    ensures { λ r. ⌜ r ≡ atPlace (record { ids = []; lengths = now (lengths .entry); waiting = now (waiting .entry) }) last n slot ⌝ }
+{
+    match slot {
+        Place::At(i) => at_slot(i, waiting[i], wide(lengths[i]), last, wide(n)),
+        Place::Nowhere => Effect::Nothing,
+    }
+}
+
+// The ports by their parts, which the walk keeps apart: what is changed by single elements is never copied whole.
+pub fn effect_in(
+    ids: [PortId; 16],
+    lengths: &[u16; 17],
+    waiting: &[bool; 17],
+    own: PortId,
+    port: PortId,
+    last: bool,
+    n: u16,
+) -> Effect
+    ensures { λ r. ⌜ r ≡ effectOf (record { ids = ids; lengths = now (lengths .entry); waiting = now (waiting .entry) }) own port last n ⌝ }
+{
+    if n == 0 {
+        return Effect::Nothing;
+    }
+    let slot = slot_in(ids, own, port);
+    at_place(lengths, waiting, slot, last, n)
+}
+
+fn slot_of(ports: Ports, own: PortId, port: PortId) -> Place
+    ensures { λ r. ⌜ (r ≡ slotOf ports own port) × (Below r slots) ⌝ }
+{
+    if port.is_assignable() {
+        behind(ports.place(port))
+    } else {
+        management(own, port)
+    }
+}
+
+// For the search for a stretch, which is not to be a second caller of `effect_in`.
+pub fn effect_of(ports: Ports, own: PortId, port: PortId, last: bool, n: u16) -> Effect
+    ensures { λ r. ⌜ r ≡ effectOf ports own port last n ⌝ }
+{
+    if n != 0 {
+        let slot = slot_of(ports, own, port);
+        let lengths = ports.lengths;
+        let waiting = ports.waiting;
+        at_place(&lengths, &waiting, slot, last, n)
+    } else {
+        Effect::Nothing
+    }
+}
