@@ -15,28 +15,28 @@ pub use rng::Rng;
 use std::hint::black_box;
 use std::time::Instant;
 
-/// The least time of many samples, in nanoseconds for each of `count` operations.
-pub fn least(count: usize, mut work: impl FnMut()) -> f64 {
-    let mut best = f64::MAX;
-    for _ in 0..300 {
-        let start = Instant::now();
-        work();
-        best = best.min(start.elapsed().as_nanos() as f64 / count as f64);
-    }
-    best
+/// Nanoseconds for each of `count` operations.
+fn timed(count: usize, work: &mut impl FnMut()) -> f64 {
+    let start = Instant::now();
+    work();
+    start.elapsed().as_nanos() as f64 / count as f64
 }
 
-/// One line of the report. Both sides take turns within one run.
-pub fn compare(name: &str, count: usize, peer: impl FnMut(), ours: impl FnMut()) {
+/// One line of the report: the least of many samples, which both sides take in turns, so that a slow moment of the machine is
+/// neither's alone.
+pub fn compare(name: &str, count: usize, mut peer: impl FnMut(), mut ours: impl FnMut()) {
     if counted::wanted() {
         counted::marked(peer);
         counted::marked(ours);
         println!("{name}");
         return;
     }
-    let peer = least(count, peer);
-    let ours = least(count, ours);
-    println!("{name:<36} {peer:>9.2} {ours:>9.2} {:>7.2}", ours / peer);
+    let (mut p, mut o) = (f64::MAX, f64::MAX);
+    for _ in 0..300 {
+        p = p.min(timed(count, &mut peer));
+        o = o.min(timed(count, &mut ours));
+    }
+    println!("{name:<44} {p:>9.2} {o:>9.2} {:>7.2}", o / p);
 }
 
 impl Rng {
@@ -50,7 +50,7 @@ impl Rng {
 fn main() {
     let check = std::env::args().nth(1).as_deref() == Some("check");
     if !check && !counted::wanted() {
-        println!("{:<36} {:>9} {:>9} {:>7}", "ns an operation", "peer", "ours", "ratio");
+        println!("{:<44} {:>9} {:>9} {:>7}", "ns an operation", "peer", "ours", "ratio");
     }
     headers::run(!check);
     messages::run(!check);
