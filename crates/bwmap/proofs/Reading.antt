@@ -9,8 +9,8 @@ use native.Mathlib.Decide.{decLt}
 use lib.Dec.{leb}
 use lib.ListN.{length, getD, take, drop, length-drop, drop-of-length-le}
 use lib.Seq.{drop-cons, take-all, length-take-le}
-use borrow.Author.Tests.{leb-true, le-leb}
-use Rattle.hec.specs.Reads.{Reading, reading}
+use borrow.Author.Tests.{leb-true}
+use Rattle.hec.specs.Reads.{reading}
 use Rattle.hec.specs.Lent.{readingBy}
 use Rattle.hec.proofs.LentReads.{lent64}
 use Rattle.framing.specs.Octets.{value}
@@ -19,7 +19,7 @@ use Rattle.framing.specs.declared.allocation.Allocation.{Allocation}
 use Rattle.framing.specs.Reads.{Found, short, taken, readAs, readAllocation}
 use Rattle.framing.proofs.Numbers.{Bytes, value-lt}
 use Rattle.entries.specs.Standings.{readBy}
-use Rattle.bwmap.specs.Series.{entryAt, entryCount}
+use Rattle.bwmap.specs.Series.{entryAt}
 use Rattle.bwmap.specs.Tables.{Tables}
 
 bytes : (m : List ℕ) → ((k : ℕ) → getD m k 0 < 256) → (n k : ℕ) → Bytes (take n (drop k m))
@@ -52,13 +52,3 @@ module _ (syndromes flips m : List ℕ) (true-tables : Tables syndromes flips) (
   read-entry i =
       let whole : take (length m - 8 * i) (drop (8 * i) m) ≡ drop (8 * i) m = take-all (length m - 8 * i) (drop (8 * i) m) (omega (arith, length-drop (8 * i) m)) in
       ap (readBy syndromes flips) whole ∙ lent (8 * i)
-
-  -- the same by its word
-  pub read-word
-      : (i x : ℕ) (r : Reading) → i < entryCount m → x ≡ value (take 8 (take (length m - 8 * i) (drop (8 * i) m))) → r ≡ readingBy syndromes flips 8 x
-      → taken allocationOf r ≡ entryAt m i
-  read-word i x r lies hx hr =
-      let part : List ℕ = take (length m - 8 * i) (drop (8 * i) m) in
-      let n : length part ≡ length m - 8 * i = ap length (take-all (length m - 8 * i) (drop (8 * i) m) (omega (arith, length-drop (8 * i) m))) ∙ length-drop (8 * i) m in
-      let e : readBy syndromes flips part ≡ taken allocationOf (readingBy syndromes flips 8 (value (take 8 part))) = rw (le-leb 8 (length part) (omega (arith, n))) in
-      ap (taken allocationOf) (hr ∙ ap (readingBy syndromes flips 8) hx) ∙ (sym e ∙ read-entry i)

@@ -1,14 +1,13 @@
 // The records of a plan.
 use super::series;
 use framing::allocation::Allocation;
-use hec::Reading64;
+use framing::allocation::AllocationRead;
 use ids::AllocId;
 ghost use Prim.Native.Nat.{_+_, _*_, _≤_, _<_};
 ghost use mathlib.Core.Path.{_≡_};
 ghost use mathlib.Core.List.{_∷_, []};
-ghost use lib.ListN.{length, take};
+ghost use lib.ListN.{length};
 ghost use lib.Seq.{sets};
-ghost use Rattle.framing.specs.Octets.{value};
 ghost use Rattle.bwmap.specs.Series.{entryCount};
 ghost use Rattle.bwmap.specs.Tables.{Tables};
 ghost use Rattle.bwmap.specs.Turns.{noAllocation, allocationAt, allocationsFrom};
@@ -72,27 +71,6 @@ fn put(plan: &mut [u16], at: usize, a: Allocation, flags: u16, start: u16)
     plan[at + 3] = a.grant;
 }
 
-fn wide64(x: u8) -> u64
-    ensures { λ r. ⌜ (r ≡ x) × (r < 256) ⌝ }
-{
-    x as u64
-}
-
-fn word64(s: &[u8]) -> u64
-    requires { ⌜ 8 ≤ length (now s) ⌝ }
-    ensures { λ r. ⌜ r ≡ value (take 8 (now (s .entry))) ⌝ }
-{
-    ((((((wide64(s[0]) * 0x100 + wide64(s[1])) * 0x100 + wide64(s[2])) * 0x100 + wide64(s[3]))
-        * 0x100
-        + wide64(s[4]))
-        * 0x100
-        + wide64(s[5]))
-        * 0x100
-        + wide64(s[6]))
-        * 0x100
-        + wide64(s[7])
-}
-
 // The fields of the i-th entry; zeros stand for one that could not be read, and none such is planned.
 pub(crate) fn allocation_at(
     syndromes: &[u16; 2048],
@@ -104,9 +82,10 @@ pub(crate) fn allocation_at(
     ensures { λ r. ⌜ r ≡ allocationAt (now (map .entry)) i ⌝ }
 {
     let at = series::STRUCTURE_OCTETS * i;
-    match hec::read64_by(syndromes, flips, word64(&map[at..])) {
-        Reading64::Word(w) => Allocation::of(w),
-        Reading64::Unreadable => no_allocation(),
+    match framing::allocation::read_allocation_by(syndromes, flips, &map[at..]) {
+        AllocationRead::Fields(a) => a,
+        AllocationRead::Unreadable => no_allocation(),
+        AllocationRead::Short => no_allocation(),
     }
 }
 

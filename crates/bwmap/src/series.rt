@@ -18,7 +18,7 @@ pub(crate) const STRUCTURE_OCTETS: usize = 8;
 pub(crate) const BURSTS_A_FRAME: usize = 4;
 
 // Entries that may follow the head of a burst.
-pub(crate) const MORE_A_BURST: usize = 15;
+const MORE_A_BURST: usize = 15;
 
 // Words of a burst.
 const WORDS_A_BURST: usize = 9720;

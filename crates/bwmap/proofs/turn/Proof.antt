@@ -1,4 +1,5 @@
-use mathlib.Core.Path.{_∙_, sym, ap}
+-- `bwmap::turn` meets its contract.
+-- Assumes nothing.
 use native.Mathlib.Omega.{arith}
 use denote.Ref.{now}
 use Rattle.bwmap.proofs.Steps.{move-past}
@@ -6,97 +7,74 @@ use Rattle.bwmap.proofs.Opens.{sizes, plan-next}
 use borrow.Author.Needs.{needs}
 use Rattle.bwmap.proofs.turn.Statement.{statement}
 use Rattle.bwmap.proofs.turn.Tie as tie
-use Rattle.bwmap.proofs.turn.Reads as reads
-use Rattle.bwmap.proofs.turn.Lts as lts
-use Rattle.bwmap.proofs.records.allocation_at.Reads as allocation-at-reads
-use Rattle.bwmap.proofs.records.mark.Reads as mark-reads
-use Rattle.bwmap.proofs.records.write_series.Reads as write-series-reads
-use Rattle.bwmap.proofs.series.next_planned.Reads as next-planned-reads
 
--- src/lib.rt:74:11
 next-planned-requires : tie.Need-next-planned-requires
 next-planned-requires c κs = search needs
 
--- src/lib.rt:75:21
 enum-known-next : tie.Need-enum-known-next
 enum-known-next c = search needs
 
--- src/lib.rt:76:22
 sub-at : tie.Need-sub-at
 sub-at c =
     let a = c .before .before .before .before .before .before .before .args in
     omega (arith, sizes (a .own) (now (a .map)) (now (a .plan)) (a .w) _ _ (rw (c .before .before .next .given .1) at (c .before .before .before .before .next-planned .ensures)))
 
--- src/lib.rt:77:24
 sub-more : tie.Need-sub-more
 sub-more c =
     let a = c .before .before .before .before .before .before .before .before .args in
     omega (arith, sizes (a .own) (now (a .map)) (now (a .plan)) (a .w) _ _ (rw (c .before .before .before .next .given .1) at (c .before .before .before .before .before .next-planned .ensures)))
 
--- src/lib.rt:78:17
 allocation-at-requires : tie.Need-allocation-at-requires
 allocation-at-requires c κs =
     let a = c .before .before .before .before .before .before .before .before .args in
     (c .before .before .before .before .before .before .before .before .pre .0, omega (arith, sizes (a .own) (now (a .map)) (now (a .plan)) (a .w) _ _ (rw (c .before .before .before .next .given .1) at (c .before .before .before .before .before .next-planned .ensures))))
 
--- src/lib.rt:79:25
 mul-place : tie.Need-mul-place
 mul-place c = search needs
 
--- src/lib.rt:80:58
 add-write-series : tie.Need-add-write-series
 add-write-series c =
     let a = c .before .before .before .before .before .before .before .before .before .before .args in
     omega (arith, sizes (a .own) (now (a .map)) (now (a .plan)) (a .w) _ _ (rw (c .before .before .before .before .before .next .given .1) at (c .before .before .before .before .before .before .before .next-planned .ensures)))
 
--- src/lib.rt:80:13
 write-series-requires : tie.Need-write-series-requires
 write-series-requires c κs =
     let a = c .before .before .before .before .before .before .before .before .before .before .before .args in
     let t = sizes (a .own) (now (a .map)) (now (a .plan)) (a .w) _ _ (rw (c .before .before .before .before .before .before .next .given .1) at (c .before .before .before .before .before .before .before .before .next-planned .ensures)) in
     (c .before .before .before .before .before .before .before .before .before .before .before .pre .0, omega (arith, t), omega (arith, t, c .before .before .before .before .before .before .before .before .before .before .before .pre .2, c .before .before .before .before .before .before .before .before .before .before .before .pre .3 .room))
 
--- src/lib.rt:83:39
 add-t17 : tie.Need-add-t17
 add-t17 c = search needs
 
--- src/lib.rt:83:26
 add-t20 : tie.Need-add-t20
 add-t20 c =
     let a = c .before .before .before .before .before .before .before .before .before .before .before .before .before .before .before .args in
     omega (arith, sizes (a .own) (now (a .map)) (now (a .plan)) (a .w) _ _ (rw (c .before .before .before .before .before .before .before .before .before .before .next .given .1) at (c .before .before .before .before .before .before .before .before .before .before .before .before .next-planned .ensures)), c .before .before .before .before .before .before .before .before .before .before .before .before .before .before .before .pre .3 .room)
 
--- src/lib.rt:84:25
 add-t21 : tie.Need-add-t21
 add-t21 c =
     let a = c .before .before .before .before .before .before .before .before .before .before .before .before .before .before .before .before .args in
     omega (arith, sizes (a .own) (now (a .map)) (now (a .plan)) (a .w) _ _ (rw (c .before .before .before .before .before .before .before .before .before .before .before .next .given .1) at (c .before .before .before .before .before .before .before .before .before .before .before .before .before .next-planned .ensures)))
 
--- src/lib.rt:85:40
 mark-requires : tie.Need-mark-requires
 mark-requires c κs = search needs
 
--- src/lib.rt:85:27
 add-t23 : tie.Need-add-t23
 add-t23 c =
     let a = c .before .before .before .before .before .before .before .before .before .before .before .before .before .before .before .before .before .before .args in
     omega (arith, sizes (a .own) (now (a .map)) (now (a .plan)) (a .w) _ _ (rw (c .before .before .before .before .before .before .before .before .before .before .before .before .before .next .given .1) at (c .before .before .before .before .before .before .before .before .before .before .before .before .before .before .before .next-planned .ensures)), c .before .before .before .before .before .before .before .before .before .before .before .before .before .before .before .before .before .before .pre .3 .sent, c .before .mark .ensures .1)
 
--- src/lib.rt:86:22
 add-t24 : tie.Need-add-t24
 add-t24 c =
     let a = c .before .before .before .before .before .before .before .before .before .before .before .before .before .before .before .before .before .before .before .args in
     omega (arith, sizes (a .own) (now (a .map)) (now (a .plan)) (a .w) _ _ (rw (c .before .before .before .before .before .before .before .before .before .before .before .before .before .before .next .given .1) at (c .before .before .before .before .before .before .before .before .before .before .before .before .before .before .before .before .next-planned .ensures)))
 
--- src/lib.rt:90:17
 enum-told : tie.Need-enum-told
 enum-told c = search needs
 
--- src/lib.rt:62:1
 same-length : tie.Need-same-length
 same-length c = search needs
 
--- src/lib.rt:62:1
 returns : tie.Need-returns
 returns c =
     let a = c .before .before .before .before .before .before .before .before .before .before .before .before .before .before .before .before .before .before .before .args in
@@ -105,7 +83,6 @@ returns c =
     let t = sizes (a .own) (now (a .map)) (now (a .plan)) (a .w) _ _ d in
     (record { few = omega (arith, t); room = omega (arith, t, s .room); sent = omega (arith, s .sent, c .before .before .mark .ensures .1); low = omega (arith, t) }, t .3, t .4, plan-next (a .own) (now (a .map)) (now (a .plan)) (a .w) _ _ d (c .before .before .before .before .before .before .before .before .before .before .allocation-at .result) (c .before .before .before .before .before .before .before .before .before .before .allocation-at .ensures) _ _ (c .before .before .before .before .before .before .before .write-series .ensures) (c .before .before .mark .ensures .0))
 
--- src/lib.rt:62:1
 returns-2 : tie.Need-returns-2
 returns-2 c =
     let a = c .before .before .before .before .before .args in

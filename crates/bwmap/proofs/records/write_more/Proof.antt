@@ -1,4 +1,6 @@
-use mathlib.Core.Path.{_≡_, _∙_, refl, sym, ap}
+-- `bwmap::records::write_more` meets its contract.
+-- Assumes nothing.
+use mathlib.Core.Path.{_≡_, _∙_, refl}
 use Prim.Native.Nat.{_+_, _-_, _*_, _≤_}
 use native.Mathlib.Omega.{arith}
 use native.Mathlib.Nat.{add-zero, sub-zero}
@@ -11,11 +13,6 @@ use Rattle.bwmap.specs.Turns.{allocationsFrom}
 use Rattle.bwmap.proofs.Laws.{written-one, written-all, write-step, write-done}
 use Rattle.bwmap.proofs.records.write_more.Statement.{statement}
 use Rattle.bwmap.proofs.records.write_more.Tie as tie
-use Rattle.bwmap.proofs.records.write_more.Reads as reads
-use Rattle.bwmap.proofs.records.write_more.Lts as lts
-use Rattle.bwmap.proofs.records.allocation_at.Reads as allocation-at-reads
-use Rattle.bwmap.proofs.records.more_flags.Reads as more-flags-reads
-use Rattle.bwmap.proofs.records.put.Reads as put-reads
 
 abbrev Inv-loop : tie.InvT-loop
 Inv-loop syndromes flips map from count h plan₀ at k₀ plan k = (k ≤ count) × (length plan ≡ length plan₀) × (sets plan (at + 4 * k) (moreNumbers h (allocationsFrom map (from + k) (count - k))) ≡ sets plan₀ at (moreNumbers h (allocationsFrom map from count)))
@@ -23,54 +20,42 @@ Inv-loop syndromes flips map from count h plan₀ at k₀ plan k = (k ≤ count)
 abbrev μ-loop : tie.MeasureT-loop
 μ-loop syndromes flips map from count h plan₀ at k₀ plan k = count - k
 
--- src/records.rt:107:5
 loop-holds : tie.Need-loop-holds Inv-loop μ-loop
 loop-holds c = (search needs, refl, rw (add-zero (c .before .before .args .at), add-zero (c .before .before .args .from), sub-zero))
 
--- src/records.rt:108:54
 add-allocation-at : tie.Need-add-allocation-at Inv-loop μ-loop
 add-allocation-at c = search needs
 
--- src/records.rt:108:13
 allocation-at-requires : tie.Need-allocation-at-requires Inv-loop μ-loop
 allocation-at-requires c κs = search needs
 
--- src/records.rt:111:18
 mul-put : tie.Need-mul-put Inv-loop μ-loop
 mul-put c = search needs
 
--- src/records.rt:111:13
 add-put : tie.Need-add-put Inv-loop μ-loop
 add-put c = search needs
 
--- src/records.rt:113:13
 more-flags-requires : tie.Need-more-flags-requires Inv-loop μ-loop
 more-flags-requires c κs = search needs
 
--- src/records.rt:109:9
 put-requires : tie.Need-put-requires Inv-loop μ-loop
 put-requires c κs = omega (arith, c .before .before .before .before .loop .inv .1, c .before .before .before .before .before .before .before .pre .2, c .before .before .before .loop-test .taken)
 
--- src/records.rt:116:9
 add-k : tie.Need-add-k Inv-loop μ-loop
 add-k c = search needs
 
--- src/records.rt:107:5
 loop-less : tie.Need-loop-less Inv-loop μ-loop
 loop-less c = search needs
 
--- src/records.rt:107:5
 loop-again : tie.Need-loop-again Inv-loop μ-loop
 loop-again c =
     let a = c .before .before .before .before .before .before .before .before .before .before .args in
     let l = c .before .before .before .before .before .before .before .loop in
     (omega arith, c .before .before .put .kept .0 ∙ l .inv .1, write-step (a .at) (l .k) (a .h) _ _ _ (l .plan) _ _ _ (written-one (now (a .map)) (a .from + l .k) (a .from + (l .k + 1)) (l .k) (a .count) (c .before .before .before .before .before .before .loop-test .taken) (omega arith)) (c .before .before .before .before .before .allocation-at .ensures) (c .before .before .before .more-flags .ensures) (c .before .before .put .ensures) ∙ l .inv .2)
 
--- src/records.rt:93:1
 same-length : tie.Need-same-length Inv-loop μ-loop
 same-length c = c .before .loop .inv .1
 
--- src/records.rt:93:1
 returns : tie.Need-returns Inv-loop μ-loop
 returns c =
     let a = c .before .before .before .before .args in

@@ -1,36 +1,27 @@
+-- `bwmap::records::write_series` meets its contract.
+-- Assumes nothing.
 use mathlib.Core.Path.{_∙_}
 use native.Mathlib.Numerals.{add-four}
 use Rattle.bwmap.specs.Plan.{seriesNumbers}
 use borrow.Author.Needs.{needs}
 use Rattle.bwmap.proofs.records.write_series.Statement.{statement}
 use Rattle.bwmap.proofs.records.write_series.Tie as tie
-use Rattle.bwmap.proofs.records.write_series.Reads as reads
-use Rattle.bwmap.proofs.records.write_series.Lts as lts
-use Rattle.bwmap.proofs.records.head_flags.Reads as head-flags-reads
-use Rattle.bwmap.proofs.records.put.Reads as put-reads
-use Rattle.bwmap.proofs.records.write_more.Reads as write-more-reads
 
--- src/records.rt:134:22
 head-flags-requires : tie.Need-head-flags-requires
 head-flags-requires c κs = search needs
 
--- src/records.rt:134:5
 put-requires : tie.Need-put-requires
 put-requires c κs = search needs
 
--- src/records.rt:143:9
 add-write-more : tie.Need-add-write-more
 add-write-more c = search needs
 
--- src/records.rt:135:5
 write-more-requires : tie.Need-write-more-requires
 write-more-requires c κs = search needs
 
--- src/records.rt:121:1
 same-length : tie.Need-same-length
 same-length c = search needs
 
--- src/records.rt:121:1
 returns : tie.Need-returns
 unfolding seriesNumbers
 returns c = c .before .before .write-more .ensures ∙ rw (c .before .before .before .before .before .before .put .ensures, c .before .before .before .before .before .before .before .head-flags .ensures, add-four)

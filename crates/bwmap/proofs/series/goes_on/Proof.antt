@@ -1,16 +1,14 @@
+-- `bwmap::series::goes_on` meets its contract.
+-- Assumes nothing.
 use borrow.Author.Tests.{lt-ltb, le-ltb}
 use Rattle.bwmap.specs.Turns.{goesOn}
 use Rattle.bwmap.proofs.series.goes_on.Statement.{statement}
 use Rattle.bwmap.proofs.series.goes_on.Tie as tie
-use Rattle.bwmap.proofs.series.goes_on.Reads as reads
-use Rattle.bwmap.proofs.series.goes_on.Lts as lts
 
--- src/series.rt:90:1
 returns : tie.Need-returns
 unfolding goesOn
 returns c = rw (lt-ltb _ _ (c .before .if1 .taken))
 
--- src/series.rt:90:1
 returns-2 : tie.Need-returns-2
 unfolding goesOn
 returns-2 c = rw (le-ltb _ _ (c .if1 .left))

@@ -1,27 +1,20 @@
+-- `bwmap::series::joined` meets its contract.
+-- Assumes nothing.
 use native.Mathlib.Omega.{arith}
-use mathlib.Core.Path.{ap}
-use Prim.Native.Nat.{ℕ, _+_}
 use Rattle.bwmap.proofs.Opens.{goes-on-facts}
 use borrow.Author.Needs.{needs}
 use Rattle.bwmap.proofs.series.joined.Statement.{statement}
 use Rattle.bwmap.proofs.series.joined.Tie as tie
-use Rattle.bwmap.proofs.series.joined.Reads as reads
-use Rattle.bwmap.proofs.series.joined.Lts as lts
-use Rattle.bwmap.proofs.series.long.Reads as long-reads
 
--- src/series.rt:101:18
 add-t3 : tie.Need-add-t3
 add-t3 c = search needs
 
--- src/series.rt:103:26
 long-requires : tie.Need-long-requires
 long-requires c κs = search needs
 
--- src/series.rt:103:16
 add-t5 : tie.Need-add-t5
 add-t5 c = search needs
 
--- src/series.rt:96:1
 returns : tie.Need-returns
 returns c = (cc, record { few = omega (arith, goes-on-facts (c .before .before .before .args .s) (c .before .before .before .pre .1)); start = c .before .before .before .pre .0 .start; words = omega (arith, c .before .before .before .pre .0 .words, c .before .long .ensures) })
 

@@ -1,5 +1,7 @@
-use mathlib.Core.Path.{_≡_, _∙_, refl, sym, ap}
-use Prim.Native.Nat.{_+_, _-_, _≤_}
+-- `bwmap::series::next_planned` meets its contract.
+-- Assumes nothing.
+use mathlib.Core.Path.{_∙_, refl, sym}
+use Prim.Native.Nat.{_-_, _≤_}
 use native.Mathlib.Omega.{arith}
 use denote.Ref.{now}
 use borrow.Author.Needs.{needs}
@@ -8,14 +10,6 @@ use Rattle.bwmap.specs.Turns.{Modest, Stage, between}
 use Rattle.bwmap.proofs.Opens.{closed-modest, reached, none-left, ended, head-stops, apart-stops, more-stops, open-next, pass-stray, pass-by, go-further}
 use Rattle.bwmap.proofs.series.next_planned.Statement.{statement}
 use Rattle.bwmap.proofs.series.next_planned.Tie as tie
-use Rattle.bwmap.proofs.series.next_planned.Reads as reads
-use Rattle.bwmap.proofs.series.next_planned.Lts as lts
-use Rattle.bwmap.proofs.series.closed.Reads as closed-reads
-use Rattle.bwmap.proofs.series.fits.Reads as fits-reads
-use Rattle.bwmap.proofs.series.goes_on.Reads as goes-on-reads
-use Rattle.bwmap.proofs.series.joined.Reads as joined-reads
-use Rattle.bwmap.proofs.series.opened.Reads as opened-reads
-use Rattle.bwmap.proofs.series.read_at.Reads as read-at-reads
 
 abbrev Inv-loop : tie.InvT-loop
 Inv-loop syndromes flips map own from end bursts n s₀ i₀ s i = (from ≤ i) × (i ≤ entryCount map) × Modest s × Stage own map end bursts from i s
@@ -23,155 +17,123 @@ Inv-loop syndromes flips map own from end bursts n s₀ i₀ s i = (from ≤ i) 
 abbrev μ-loop : tie.MeasureT-loop
 μ-loop syndromes flips map own from end bursts n s₀ i₀ s i = n - i
 
--- src/series.rt:149:9
 closed-requires : tie.Need-closed-requires Inv-loop μ-loop
 closed-requires c κs = search needs
 
--- src/series.rt:151:5
 loop-holds : tie.Need-loop-holds Inv-loop μ-loop
 loop-holds c = (omega arith, c .before .before .pre .1, closed-modest _ (c .closed .ensures), between (c .closed .ensures) refl)
 
--- src/series.rt:152:15
 read-at-requires : tie.Need-read-at-requires Inv-loop μ-loop
 read-at-requires c κs = search needs
 
--- src/series.rt:153:28
 enum-known-h : tie.Need-enum-known-h Inv-loop μ-loop
 enum-known-h c = search needs
 
--- src/series.rt:154:20
 fits-requires : tie.Need-fits-requires Inv-loop μ-loop
 fits-requires c κs = search needs
 
--- src/series.rt:155:21
 returns : tie.Need-returns Inv-loop μ-loop
 returns c =
     let a = c .before .before .before .before .before .before .before .before .before .before .args in
     let l = c .before .before .before .before .before .before .before .loop in
     reached (a .own) (now (a .map)) (a .end) (a .bursts) (a .from) (l .i) (l .s) (l .inv .3) (head-stops (a .own) (now (a .map)) (a .end) (a .bursts) (a .from) (l .i) (l .s) _ (c .before .before .before .before .before .before .loop-test .taken) (c .before .before .before .before .before .read-at .ensures) (c .before .before .before .h .given .0 .0) (c .before .before .before .h .given .1)) (sym (c .before .fits2 .ensures) ∙ c .if1 .taken) (l .inv .2 .start) (l .inv .1)
 
--- src/series.rt:157:17
 opened-requires : tie.Need-opened-requires Inv-loop μ-loop
 opened-requires c κs = search needs
 
--- src/series.rt:158:17
 add-i : tie.Need-add-i Inv-loop μ-loop
 add-i c = search needs
 
--- src/series.rt:151:5
 loop-less : tie.Need-loop-less Inv-loop μ-loop
 loop-less c = search needs
 
--- src/series.rt:151:5
 loop-again : tie.Need-loop-again Inv-loop μ-loop
 loop-again c =
     let a = c .before .before .before .before .before .before .before .before .before .before .before .args in
     let l = c .before .before .before .before .before .before .before .before .loop in
     (omega (arith, l .inv .0), omega (arith, c .before .before .before .before .before .before .before .loop-test .taken), c .opened .ensures .1, open-next (a .own) (now (a .map)) (a .end) (a .bursts) (a .from) (l .i) (l .s) _ (c .before .before .before .before .before .before .before .loop-test .taken) (c .before .before .before .before .before .before .read-at .ensures) (c .before .before .before .before .h .given .0 .0) _ (c .before .before .before .before .h .given .1) (c .opened .ensures .0) (l .inv .0) (l .inv .3) (sym (c .before .before .fits2 .ensures) ∙ c .before .if1 .left))
 
--- src/series.rt:160:28
 enum-known-a : tie.Need-enum-known-a Inv-loop μ-loop
 enum-known-a c = search needs
 
--- src/series.rt:161:20
 goes-on-requires : tie.Need-goes-on-requires Inv-loop μ-loop
 goes-on-requires c κs = search needs
 
--- src/series.rt:162:21
 joined-requires : tie.Need-joined-requires Inv-loop μ-loop
 joined-requires c κs = (c .before .before .before .before .before .before .before .loop .inv .2, sym (c .before .goes-on .ensures) ∙ c .if2 .taken)
 
--- src/series.rt:163:21
 add-i-2 : tie.Need-add-i-2 Inv-loop μ-loop
 add-i-2 c = search needs
 
--- src/series.rt:151:5
 loop-less-2 : tie.Need-loop-less-2 Inv-loop μ-loop
 loop-less-2 c = search needs
 
--- src/series.rt:151:5
 loop-again-2 : tie.Need-loop-again-2 Inv-loop μ-loop
 loop-again-2 c =
     let a = c .before .before .before .before .before .before .before .before .before .before .before .args in
     let l = c .before .before .before .before .before .before .before .before .loop in
     (omega (arith, l .inv .0), omega (arith, c .before .before .before .before .before .before .before .loop-test .taken), c .joined .ensures .1, go-further (a .own) (now (a .map)) (a .end) (a .bursts) (a .from) (l .i) (l .s) _ (c .before .before .before .before .before .before .before .loop-test .taken) (c .before .before .before .before .before .before .read-at .ensures) (c .before .before .before .before .a .given .0 .0) _ (c .before .before .before .before .a .given .1) (c .joined .ensures .0) (sym (c .before .before .goes-on .ensures) ∙ c .before .if2 .taken) (l .inv .3))
 
--- src/series.rt:165:24
 fits-requires-2 : tie.Need-fits-requires-2 Inv-loop μ-loop
 fits-requires-2 c κs = search needs
 
--- src/series.rt:166:25
 returns-2 : tie.Need-returns-2 Inv-loop μ-loop
 returns-2 c =
     let a = c .before .before .before .before .before .before .before .before .before .before .before .before .args in
     let l = c .before .before .before .before .before .before .before .before .before .loop in
     reached (a .own) (now (a .map)) (a .end) (a .bursts) (a .from) (l .i) (l .s) (l .inv .3) (more-stops (a .own) (now (a .map)) (a .end) (a .bursts) (a .from) (l .i) (l .s) _ (c .before .before .before .before .before .before .before .before .loop-test .taken) (c .before .before .before .before .before .before .before .read-at .ensures) (sym (c .before .before .before .goes-on .ensures) ∙ c .before .before .if2 .left)) (sym (c .before .fits3 .ensures) ∙ c .if3 .taken) (l .inv .2 .start) (l .inv .1)
 
--- src/series.rt:168:21
 closed-requires-2 : tie.Need-closed-requires-2 Inv-loop μ-loop
 closed-requires-2 c κs = search needs
 
--- src/series.rt:169:21
 add-i-3 : tie.Need-add-i-3 Inv-loop μ-loop
 add-i-3 c = search needs
 
--- src/series.rt:151:5
 loop-less-3 : tie.Need-loop-less-3 Inv-loop μ-loop
 loop-less-3 c = search needs
 
--- src/series.rt:151:5
 loop-again-3 : tie.Need-loop-again-3 Inv-loop μ-loop
 loop-again-3 c =
     let a = c .before .before .before .before .before .before .before .before .before .before .before .before .before .args in
     let l = c .before .before .before .before .before .before .before .before .before .before .loop in
     (omega (arith, l .inv .0), omega (arith, c .before .before .before .before .before .before .before .before .before .loop-test .taken), closed-modest _ (c .closed2 .ensures), pass-stray (a .own) (now (a .map)) (a .end) (a .bursts) (a .from) (l .i) (l .s) _ (c .before .before .before .before .before .before .before .before .before .loop-test .taken) (c .before .before .before .before .before .before .before .before .read-at .ensures) (c .before .before .before .before .before .before .a .given .0 .0) _ (c .before .before .before .before .before .before .a .given .1) (c .closed2 .ensures) (sym (c .before .before .before .before .goes-on .ensures) ∙ c .before .before .before .if2 .left) (l .inv .3) (sym (c .before .before .fits3 .ensures) ∙ c .before .if3 .left))
 
--- src/series.rt:173:20
 enum-told : tie.Need-enum-told Inv-loop μ-loop
 enum-told c = search needs
 
--- src/series.rt:173:20
 fits-requires-3 : tie.Need-fits-requires-3 Inv-loop μ-loop
 fits-requires-3 c κs = search needs
 
--- src/series.rt:174:21
 returns-3 : tie.Need-returns-3 Inv-loop μ-loop
 returns-3 c =
     let a = c .before .before .before .before .before .before .before .before .before .args in
     let l = c .before .before .before .before .before .before .loop in
     reached (a .own) (now (a .map)) (a .end) (a .bursts) (a .from) (l .i) (l .s) (l .inv .3) (apart-stops (a .own) (now (a .map)) (a .end) (a .bursts) (a .from) (l .i) (l .s) _ (c .before .before .before .before .before .loop-test .taken) (c .before .before .before .before .read-at .ensures) _ (c .before .before .enum-told .given .1)) (sym (c .before .fits4 .ensures) ∙ c .if4 .taken) (l .inv .2 .start) (l .inv .1)
 
--- src/series.rt:176:17
 closed-requires-3 : tie.Need-closed-requires-3 Inv-loop μ-loop
 closed-requires-3 c κs = search needs
 
--- src/series.rt:177:17
 add-i-4 : tie.Need-add-i-4 Inv-loop μ-loop
 add-i-4 c = search needs
 
--- src/series.rt:151:5
 loop-less-4 : tie.Need-loop-less-4 Inv-loop μ-loop
 loop-less-4 c = search needs
 
--- src/series.rt:151:5
 loop-again-4 : tie.Need-loop-again-4 Inv-loop μ-loop
 loop-again-4 c =
     let a = c .before .before .before .before .before .before .before .before .before .before .args in
     let l = c .before .before .before .before .before .before .before .loop in
     (omega (arith, l .inv .0), omega (arith, c .before .before .before .before .before .before .loop-test .taken), closed-modest _ (c .closed3 .ensures), pass-by (a .own) (now (a .map)) (a .end) (a .bursts) (a .from) (l .i) (l .s) _ (c .before .before .before .before .before .before .loop-test .taken) (c .before .before .before .before .before .read-at .ensures) _ _ (c .before .before .before .enum-told .given .1) (c .closed3 .ensures) (l .inv .3) (sym (c .before .before .fits4 .ensures) ∙ c .before .if4 .left))
 
--- src/series.rt:181:8
 fits-requires-4 : tie.Need-fits-requires-4 Inv-loop μ-loop
 fits-requires-4 c κs = search needs
 
--- src/series.rt:182:9
 returns-4 : tie.Need-returns-4 Inv-loop μ-loop
 returns-4 c =
     let a = c .before .before .before .before .before .before .args in
     let l = c .before .before .before .loop in
     reached (a .own) (now (a .map)) (a .end) (a .bursts) (a .from) (l .i) (l .s) (l .inv .3) (ended (a .own) (now (a .map)) (a .end) (a .bursts) (a .from) (l .i) (l .s) (c .before .before .loop-test .left)) (sym (c .before .fits5 .ensures) ∙ c .if5 .taken) (l .inv .2 .start) (l .inv .1)
 
--- src/series.rt:136:1
 returns-5 : tie.Need-returns-5 Inv-loop μ-loop
 returns-5 c =
     let a = c .before .before .before .before .before .before .args in

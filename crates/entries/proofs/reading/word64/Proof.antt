@@ -1,11 +1,11 @@
--- `bwmap::records::word64` meets its contract, an octet after the other.
+-- `entries::reading::word64` meets its contract, an octet after the other.
 -- Assumes nothing.
 use denote.Ref.{now}
 use native.Mathlib.Omega.{arith}
 use Rattle.framing.proofs.Numbers.{value-step}
 use borrow.Author.Needs.{needs}
-use Rattle.bwmap.proofs.records.word64.Statement.{statement}
-use Rattle.bwmap.proofs.records.word64.Tie as tie
+use Rattle.entries.proofs.reading.word64.Statement.{statement}
+use Rattle.entries.proofs.reading.word64.Tie as tie
 
 shared-slice-read-wide64 : tie.Need-shared-slice-read-wide64
 shared-slice-read-wide64 c = search needs
