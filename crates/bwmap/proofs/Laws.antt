@@ -3,7 +3,6 @@
 use Prim.Native.Nat.{ℕ, zero, suc, _+_, _-_, _*_, _≤_, _<_}
 use mathlib.Core.Path.{_≡_, _∙_, refl, sym, ap}
 use mathlib.Core.List.{List, [], _∷_, _++_}
-use mathlib.Core.Bool.{Bool, true, false, cond}
 use native.Mathlib.Omega.{arith}
 use native.Mathlib.Numerals.{add-one}
 use native.Mathlib.Nat.{add-zero}
@@ -17,12 +16,7 @@ use Rattle.entries.specs.declared.Standing.the-variants.{Apart, Head, More}
 use Rattle.entries.specs.Standings.{standing}
 use Rattle.bwmap.specs.Series.{entryAt, entryCount, run, seriesOf, grants}
 use Rattle.bwmap.specs.Plan.{moreFlags, planRecord, moreNumbers}
-use Rattle.bwmap.specs.Turns.{rest, orLater, seen, standOf, nextOf, NextHead, tally}
-use Rattle.bwmap.specs.declared.series.Run.{Run}
-use Rattle.bwmap.specs.declared.series.Next.{Next}
-use Rattle.bwmap.specs.declared.series.Next.the-variants.{At, Nowhere}
-use Rattle.bwmap.specs.declared.series.Seen.{Seen}
-use Rattle.bwmap.specs.declared.series.Seen.the-variants.{Head as SeenHead, More as SeenMore, Apart as SeenApart, Nothing as SeenNothing}
+use Rattle.bwmap.specs.Turns.{rest, Run, tally, allocationAt, allocationsFrom}
 
 -- ---- the entries that are left
 
@@ -99,74 +93,25 @@ tally-step k g r a l l′ e h = rw (e, h) (sym (tally-cons k g a l′))
 pub tally-done : (k g : ℕ) (l : List Allocation) → l ≡ [] → record { count = k; grants = g } ≡ tally k g l
 tally-done k g l e = rw (e, tally-nil)
 
--- the records of a run, one more
+-- ---- the records of a run
+
+pub written-one : (m : List ℕ) (i j k n : ℕ) → k < n → j ≡ i + 1 → allocationsFrom m i (n - k) ≡ allocationAt m i ∷ allocationsFrom m j (n - (k + 1))
+written-one m i j k n h hj =
+    let e : n - k ≡ suc (n - (k + 1)) = omega arith in
+    rw (e, hj, add-one i)
+
+pub written-all : (m : List ℕ) (i k n : ℕ) → n ≤ k → allocationsFrom m i (n - k) ≡ []
+written-all m i k n h =
+    let e : n - k ≡ 0 = omega arith in
+    rw e
+
 pub write-step
-    : (at k : ℕ) (h a : Allocation) (f : ℕ) (p p′ : List ℕ) (l l′ : List Allocation) → l ≡ a ∷ l′ → f ≡ moreFlags h a
+    : (at k : ℕ) (h a b : Allocation) (f : ℕ) (p p′ : List ℕ) (l l′ : List Allocation) → l ≡ b ∷ l′ → a ≡ b → f ≡ moreFlags h a
     → p′ ≡ sets p (at + 4 * k) (planRecord a f (h .start))
     → sets p′ (at + 4 * (k + 1)) (moreNumbers h l′) ≡ sets p (at + 4 * k) (moreNumbers h l)
-write-step at k h a f p p′ l l′ e hf hp =
-    let b : at + 4 * (k + 1) ≡ suc (suc (suc (suc (at + 4 * k)))) = omega arith in
-    rw (hp, b, e, hf)
+write-step at k h a b f p p′ l l′ e ha hf hp =
+    let d : at + 4 * (k + 1) ≡ suc (suc (suc (suc (at + 4 * k)))) = omega arith in
+    rw (hp, d, e, hf, ha)
 
 pub write-done : (p : List ℕ) (at : ℕ) (h : Allocation) (l : List Allocation) → l ≡ [] → p ≡ sets p at (moreNumbers h l)
 write-done p at h l e = rw e
-
--- ---- a look at entries
-
-module _ (own : Own) (m : List ℕ) where
-  -- one entry further
-  pub look-on : (heads : Bool) (i to : ℕ) (x : Standing) → i < to → x ≡ standing own (entryAt m i) → seen own m heads i (to - i) ≡ orLater heads i x (seen own m heads (i + 1) (to - (i + 1)))
-  look-on heads i to x h p =
-      let e : to - i ≡ suc (to - (i + 1)) = omega arith in
-      rw (e, add-one i, ← p)
-
-  pub look-past : (heads : Bool) (i to : ℕ) → to ≤ i → seen own m heads i (to - i) ≡ SeenNothing
-  look-past heads i to h =
-      let e : to - i ≡ 0 = omega arith in
-      rw e
-
-  pub look-one : (i : ℕ) → seen own m false i (i + 1 - i) ≡ orLater false i (standing own (entryAt m i)) SeenNothing
-  look-one i =
-      let e : i + 1 - i ≡ 1 = omega arith in
-      rw e
-
-  module _ (heads : Bool) (i to : ℕ) (x : Standing) (h : i < to) (p : x ≡ standing own (entryAt m i)) where
-    pub see-head : (a : Allocation) → x ≡ Head a → SeenHead i a ≡ seen own m heads i (to - i)
-    see-head a q = rw (look-on heads i to x h p, q)
-
-    pub see-more : (a : Allocation) → x ≡ More a → heads ≡ false → SeenMore a ≡ seen own m heads i (to - i)
-    see-more a q r = rw (look-on heads i to x h p, q, r)
-
-    pub see-apart : (v : Verdict) → x ≡ Apart v → heads ≡ false → SeenApart v ≡ seen own m heads i (to - i)
-    see-apart v q r = rw (look-on heads i to x h p, q, r)
-
-    pub past-more : (a : Allocation) → x ≡ More a → heads ≡ true → seen own m heads (i + 1) (to - (i + 1)) ≡ seen own m heads i (to - i)
-    past-more a q r = rw (look-on heads i to x h p, q, r)
-
-    pub past-apart : (v : Verdict) → x ≡ Apart v → heads ≡ true → seen own m heads (i + 1) (to - (i + 1)) ≡ seen own m heads i (to - i)
-    past-apart v q r = rw (look-on heads i to x h p, q, r)
-
-  -- a look at one entry finds what stands there
-  pub found-one : (i : ℕ) → standOf (seen own m false i (i + 1 - i)) ≡ standing own (entryAt m i)
-  found-one i = ap standOf (look-one i) ∙ go (standing own (entryAt m i))
-    where
-      go : (x : Standing) → standOf (orLater false i x SeenNothing) ≡ x
-      go (Head h) = refl
-      go (More a) = refl
-      go (Apart v) = refl
-
-  weaken : (i : ℕ) (r : Next) → seriesOf (rest own m (suc i)) ≡ seriesOf (rest own m i) → NextHead own m (suc i) r → NextHead own m i r
-  weaken i (At j h) e n = (omega arith, n .1, n .2, n .3 ∙ e)
-  weaken i Nowhere e n = sym e ∙ n
-
-  -- a look at all that are left for a head finds the next
-  pub found-next : (k i : ℕ) → k ≡ entryCount m - i → NextHead own m i (nextOf (seen own m true i k))
-  found-next zero i e = ap seriesOf (rest-nil own m i (omega arith))
-  found-next (suc k) i e = go (standing own (entryAt m i)) refl (found-next k (suc i) (omega arith))
-    where
-      go : (x : Standing) → standing own (entryAt m i) ≡ x → NextHead own m (suc i) (nextOf (seen own m true (suc i) k)) → NextHead own m i (nextOf (orLater true i x (seen own m true (suc i) k)))
-      go (Head h) q n = (omega arith, omega arith, q, refl)
-      go (More a) q n =
-          weaken i (nextOf (seen own m true (suc i) k)) (ap (λ (j : ℕ). seriesOf (rest own m j)) (sym (add-one i)) ∙ pass-more own m i (More a) (omega arith) (sym q) a refl) n
-      go (Apart v) q n =
-          weaken i (nextOf (seen own m true (suc i) k)) (ap (λ (j : ℕ). seriesOf (rest own m j)) (sym (add-one i)) ∙ pass-apart own m i (Apart v) (omega arith) (sym q) v refl) n

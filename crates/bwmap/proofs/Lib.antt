@@ -1,6 +1,7 @@
 pub mod Reading
 pub mod Laws
 pub mod Steps
+pub mod Opens
 pub mod Determined
 pub mod Kept
 pub mod Once

@@ -21,8 +21,7 @@ use Rattle.entries.proofs.Facts.{ours-is, head-start, silent-apart}
 use Rattle.bwmap.specs.Limits.{wordsABurst, burstsAFrame, planNumbers}
 use Rattle.bwmap.specs.Series.{Series, entryAt, entryCount, standingsFrom, run, seriesAt, seriesOf, grants, wordsOf, burstWords, endOf, judged, verdictOf, planned, lastEnd, carriedOver, plannedOf}
 use Rattle.bwmap.specs.Plan.{mark, moreFlags, planRecord, moreNumbers, seriesNumbers, numbers, entriesIn, records, messages, Left, counted, written}
-use Rattle.bwmap.specs.Turns.{rest, tally, Outcome, outcome, toCome, movedTo, starting, Small}
-use Rattle.bwmap.specs.declared.series.Run.{Run}
+use Rattle.bwmap.specs.Turns.{rest, Run, tally, Outcome, outcome, toCome, starting, Small}
 use Rattle.bwmap.specs.declared.Walk.{Walk}
 use Rattle.bwmap.specs.declared.Plan.{Plan}
 use Rattle.bwmap.specs.declared.Answer.{Answer}
@@ -150,7 +149,7 @@ module _
   here : rest own m at ≡ Head h ∷ rest own m (at + 1)
   here = rw (rest-cons own m at lies, heads)
 
-  count-is : r .count ≡ length (run 15 (rest own m (at + 1)))
+  pub count-is : r .count ≡ length (run 15 (rest own m (at + 1)))
   count-is = rw (hr, zero-add)
 
   grants-are : r .grants ≡ grants (run 15 (rest own m (at + 1)))
@@ -169,27 +168,29 @@ module _
   behind : seriesOf (rest own m (at + 1 + r .count)) ≡ seriesOf (rest own m (at + 1))
   behind = skip own m (at + 1) (r .count) count-is
 
-  module _ (p : List ℕ) (w : Walk) (start words : ℕ) (hs : start ≡ h .start) (hw : words ≡ wordsOf h (r .grants)) (v : Verdict) (hv : v ≡ judged (w .end) (w .bursts) start words) where
-    judged-so : v ≡ verdictOf (w .end) (w .bursts) (seriesAt h (rest own m (at + 1)))
-    judged-so = hv ∙ cc (hs, hw, grants-are)
+  pub judged-so : (e n start words : ℕ) → start ≡ h .start → words ≡ wordsOf h (r .grants) → judged e n start words ≡ verdictOf e n (seriesAt h (rest own m (at + 1)))
+  judged-so e n start words hs hw = cc (hs, hw, grants-are)
 
-    pub pass-series : isPlanned v ≡ false → toCome own m p (movedTo (at + 1 + r .count) w) ≡ toCome own m p (movedTo at w)
-    pass-series t =
-        let u : isPlanned (verdictOf (w .end) (w .bursts) (seriesAt h (rest own m (at + 1)))) ≡ false = ap isPlanned (sym judged-so) ∙ t in
-        rw (here, behind, u)
+  -- a series that is passed over moves nothing
+  pub pass-series
+      : (e n : ℕ) → isPlanned (verdictOf e n (seriesAt h (rest own m (at + 1)))) ≡ false
+      → planned e n (seriesOf (rest own m (at + 1 + r .count))) ≡ planned e n (seriesOf (rest own m at))
+  pass-series e n u = rw (here, behind, u)
 
-    pub plan-series
-        : (q : List ℕ) (x : ℕ) → isPlanned v ≡ true → q ≡ sets p (4 * w .records) (seriesNumbers (seriesAt h (rest own m (at + 1)))) → x ≡ mark (h .ploamu) 1
-        → toCome own m q (record { at = at + 1 + r .count; records = w .records + (r .count + 1); bursts = w .bursts + 1; messages = w .messages + x; end = start + words })
-        ≡ toCome own m p (movedTo at w)
-    plan-series q x t hq hx =
-        let u : isPlanned (verdictOf (w .end) (w .bursts) (seriesAt h (rest own m (at + 1)))) ≡ true = ap isPlanned (sym judged-so) ∙ t in
-        let e : start + words ≡ endOf (seriesAt h (rest own m (at + 1))) = cc (hs, hw, grants-are) in
-        let c : w .records + (r .count + 1) ≡ w .records + entriesIn (seriesAt h (rest own m (at + 1))) = cc count-is in
-        let g : w .messages + x ≡ w .messages + mark (h .ploamu) 1 = cc hx in
-        rw (here, behind, u)
-        (ap (λ (z : ℕ). outcome q (record { at = 0; records = w .records + (r .count + 1); bursts = w .bursts + 1; messages = w .messages + x; end = start + words }) (planned z (w .bursts + 1) (seriesOf (rest own m (at + 1))))) e
-        ∙ outcome-cons p q w (record { at = 0; records = w .records + (r .count + 1); bursts = w .bursts + 1; messages = w .messages + x; end = start + words }) (seriesAt h (rest own m (at + 1))) (planned (endOf (seriesAt h (rest own m (at + 1)))) (w .bursts + 1) (seriesOf (rest own m (at + 1)))) hq c refl g e)
+  pub plan-series
+      : (p q : List ℕ) (w : Walk) (start words x : ℕ) → start ≡ h .start → words ≡ wordsOf h (r .grants)
+      → isPlanned (judged (w .end) (w .bursts) start words) ≡ true → planned (w .end) (w .bursts) (seriesOf (rest own m at)) ≡ planned (w .end) (w .bursts) (seriesOf (rest own m (w .at)))
+      → q ≡ sets p (4 * w .records) (seriesNumbers (seriesAt h (rest own m (at + 1)))) → x ≡ mark (h .ploamu) 1
+      → toCome own m q (record { at = at + 1 + r .count; records = w .records + (r .count + 1); bursts = w .bursts + 1; messages = w .messages + x; end = start + words })
+      ≡ toCome own m p w
+  plan-series p q w start words x hs hw t next hq hx =
+      let u : isPlanned (verdictOf (w .end) (w .bursts) (seriesAt h (rest own m (at + 1)))) ≡ true = ap isPlanned (sym (judged-so (w .end) (w .bursts) start words hs hw)) ∙ t in
+      let e : start + words ≡ endOf (seriesAt h (rest own m (at + 1))) = cc (hs, hw, grants-are) in
+      let c : w .records + (r .count + 1) ≡ w .records + entriesIn (seriesAt h (rest own m (at + 1))) = cc count-is in
+      let g : w .messages + x ≡ w .messages + mark (h .ploamu) 1 = cc hx in
+      rw (← next, here, behind, u)
+      (ap (λ (z : ℕ). outcome q (record { at = 0; records = w .records + (r .count + 1); bursts = w .bursts + 1; messages = w .messages + x; end = start + words }) (planned z (w .bursts + 1) (seriesOf (rest own m (at + 1))))) e
+      ∙ outcome-cons p q w (record { at = 0; records = w .records + (r .count + 1); bursts = w .bursts + 1; messages = w .messages + x; end = start + words }) (seriesAt h (rest own m (at + 1))) (planned (endOf (seriesAt h (rest own m (at + 1)))) (w .bursts + 1) (seriesOf (rest own m (at + 1)))) hq c refl g e)
 
 -- ---- the end of the walk
 
@@ -200,12 +201,10 @@ module _ (own : Own) (m p : List ℕ) (w : Walk) where
   pub walk-full : burstsAFrame ≤ w .bursts → outcome p w [] ≡ toCome own m p w
   walk-full h = rw (planned-full (w .end) (w .bursts) (seriesOf (rest own m (w .at))) h)
 
-  -- from the next head on, or to the end
-  pub move-to : (i : ℕ) → seriesOf (rest own m i) ≡ seriesOf (rest own m (w .at)) → toCome own m p (movedTo i w) ≡ toCome own m p w
-  move-to i e = rw e
-
-  pub move-past : seriesOf (rest own m (w .at)) ≡ [] → toCome own m p (movedTo (entryCount m) w) ≡ toCome own m p w
-  move-past e = move-to (entryCount m) (ap seriesOf (rest-nil own m (entryCount m) (omega arith)) ∙ sym e)
+  pub move-past
+      : planned (w .end) (w .bursts) (seriesOf (rest own m (w .at))) ≡ []
+      → toCome own m p (record { at = entryCount m; records = w .records; bursts = w .bursts; messages = w .messages; end = w .end }) ≡ toCome own m p w
+  move-past e = rw (e, rest-nil own m (entryCount m) (omega arith))
 
 -- what the walk has written and counted is the plan
 pub finish

@@ -1,61 +1,114 @@
 -- What the turns of the walk's loops come to. Nothing public speaks of these.
 -- Assumes nothing.
-use mathlib.Core.Bool.{Bool, cond}
+use mathlib.Core.Bool.{Bool, true, false, _&&_}
 use Prim.Native.Nat.{ℕ, zero, suc, _+_, _-_, _*_, _≤_, _<_}
 use mathlib.Core.Path.{_≡_}
-use mathlib.Core.List.{List, []}
+use mathlib.Core.List.{List, [], _∷_}
+use lib.Dec.{ltb, leb}
 use lib.ListN.{length}
 use lib.Seq.{sets}
+use Rattle.framing.specs.Reads.{Found, fields, unreadable, short}
 use Rattle.framing.specs.declared.allocation.Allocation.{Allocation}
 use Rattle.entries.specs.declared.Own.{Own}
-use Rattle.entries.specs.declared.Verdict.the-variants.{Unreadable}
 use Rattle.entries.specs.declared.Standing.{Standing}
-use Rattle.entries.specs.declared.Standing.the-variants.{Apart, Head, More}
-use Rattle.entries.specs.Standings.{standing}
+use Rattle.entries.specs.declared.Standing.the-variants.{Head}
+use Rattle.entries.specs.Standings.{standing, isPlanned}
 use Rattle.bwmap.specs.Limits.{burstsAFrame, entriesABurst, numbersARecord}
-use Rattle.bwmap.specs.Series.{Series, entryAt, entryCount, standingsFrom, seriesOf, grants, planned, lastEnd}
+use Rattle.bwmap.specs.Series.{Series, entryAt, entryCount, standingsFrom, run, seriesOf, grants, wordsOf, judged, planned, lastEnd}
 use Rattle.bwmap.specs.Plan.{numbers, records, messages}
+use Rattle.bwmap.specs.declared.series.Open.{Open}
 use Rattle.bwmap.specs.declared.series.Next.{Next}
-use Rattle.bwmap.specs.declared.series.Next.the-variants.{At, Nowhere}
-use Rattle.bwmap.specs.declared.series.Seen.{Seen}
-use Rattle.bwmap.specs.declared.series.Seen.the-variants.{Head as SeenHead, More as SeenMore, Apart as SeenApart, Nothing as SeenNothing}
-use Rattle.bwmap.specs.declared.series.Run.{Run}
+use Rattle.bwmap.specs.declared.series.Next.the-variants.{Until, Nowhere}
 use Rattle.bwmap.specs.declared.Walk.{Walk}
 
 -- the entries from the i-th on
 abbrev pub rest : Own → List ℕ → ℕ → List Standing
 rest own m i = standingsFrom own m i (entryCount m - i)
 
--- what a look at k entries from the i-th on finds first: a head of ours, or whatever stands there
-abbrev pub orLater : Bool → ℕ → Standing → Seen → Seen
-orLater heads i (Head h) later = SeenHead i h
-orLater heads i (More a) later = cond heads later (SeenMore a)
-orLater heads i (Apart v) later = cond heads later (SeenApart v)
-
-abbrev pub seen : Own → List ℕ → Bool → ℕ → ℕ → Seen
-seen own m heads i zero = SeenNothing
-seen own m heads i (suc k) = orLater heads i (standing own (entryAt m i)) (seen own m heads (suc i) k)
-
-abbrev pub standOf : Seen → Standing
-standOf (SeenHead i h) = Head h
-standOf (SeenMore a) = More a
-standOf (SeenApart v) = Apart v
-standOf SeenNothing = Apart Unreadable
-
-abbrev pub nextOf : Seen → Next
-nextOf (SeenHead i h) = At i h
-nextOf (SeenMore a) = Nowhere
-nextOf (SeenApart v) = Nowhere
-nextOf SeenNothing = Nowhere
-
--- the next head of ours: between `from` and it no series begins
-abbrev pub NextHead : Own → List ℕ → ℕ → Next → Type 0
-NextHead own m from (At i h) =
-    (from ≤ i) × (i < entryCount m) × (standing own (entryAt m i) ≡ Head h) × (seriesOf (rest own m i) ≡ seriesOf (rest own m from))
-NextHead own m from Nowhere = seriesOf (rest own m from) ≡ []
+-- how many entries continue a head, and the sum of their GrantSizes
+pub record Run : Type 0 where
+  pub count : ℕ
+  pub grants : ℕ
 
 abbrev pub tally : ℕ → ℕ → List Allocation → Run
 tally k g l = record { count = k + length l; grants = g + grants l }
+
+-- ---- a series as it is read
+
+abbrev pub closed : Open
+closed = record { entries = 0; start = 0; words = 0 }
+
+abbrev pub opened : Allocation → Open
+opened h = record { entries = 1; start = h .start; words = wordsOf h 0 }
+
+abbrev pub joined : Open → Allocation → Open
+joined s a = record { entries = s .entries + 1; start = s .start; words = s .words + a .grant }
+
+-- one is open, and has room for one more
+unfoldable pub goesOn : Open → Bool
+goesOn s = ltb 0 (s .entries) && leb (s .entries) (entriesABurst - 1)
+
+-- one is open, and is planned as it ends
+unfoldable pub fits : ℕ → ℕ → Open → Bool
+fits e n s = ltb 0 (s .entries) && isPlanned (judged e n (s .start) (s .words))
+
+-- its numbers stay small
+pub record Modest (s : Open) : Type 0 where
+  pub few : s .entries ≤ entriesABurst
+  pub start : s .start < 65536
+  pub words : s .words ≤ 65549 * s .entries
+
+-- the head of s stands at `at`, `from` or later, and what continues it is read up to the i-th entry
+pub record Running (own : Own) (m : List ℕ) (from i : ℕ) (s : Open) : Type 0 where
+  pub at : ℕ
+  pub head : Allocation
+  pub more : ℕ
+  pub grants : ℕ
+  pub after : from ≤ at
+  pub lies : at < entryCount m
+  pub stands : standing own (entryAt m at) ≡ Head head
+  pub here : i ≡ at + 1 + more
+  pub few : more ≤ 15
+  pub is : s ≡ record { entries = more + 1; start = head .start; words = wordsOf head grants }
+  pub so-far : tally more grants (run (15 - more) (rest own m i)) ≡ tally 0 0 (run 15 (rest own m (at + 1)))
+
+-- between `from` and the i-th entry, or the head of the series that is open, none is planned
+pub data Stage (own : Own) (m : List ℕ) (e n from i : ℕ) (s : Open) : Type 0 where
+  between : s ≡ closed → planned e n (seriesOf (rest own m i)) ≡ planned e n (seriesOf (rest own m from)) → Stage own m e n from i s
+  within : (r : Running own m from i s) → planned e n (seriesOf (rest own m (r .at))) ≡ planned e n (seriesOf (rest own m from)) → Stage own m e n from i s
+
+-- the series that ends before the i-th entry is the next one planned
+pub record Reached (own : Own) (m : List ℕ) (e n from i : ℕ) (s : Open) : Type 0 where
+  pub low : s .start < 65536
+  pub ends : i ≤ entryCount m
+  pub running : Running own m from i s
+  pub stops : run (15 - running .more) (rest own m i) ≡ []
+  pub fit : isPlanned (judged e n (s .start) (s .words)) ≡ true
+  pub next : planned e n (seriesOf (rest own m (running .at))) ≡ planned e n (seriesOf (rest own m from))
+
+abbrev pub NextPlanned : Own → List ℕ → ℕ → ℕ → ℕ → Next → Type 0
+NextPlanned own m e n from (Until i s) = Reached own m e n from i s
+NextPlanned own m e n from Nowhere = planned e n (seriesOf (rest own m from)) ≡ []
+
+-- ---- the entries of a series as they are written
+
+abbrev pub noAllocation : Allocation
+noAllocation = record { alloc = record { 0 = 0 }; dbru = false; ploamu = false; start = 0; grant = 0; fwi = false; profile = 0 }
+
+abbrev pub fieldsOf : Found Allocation → Allocation
+fieldsOf (fields a) = a
+fieldsOf unreadable = noAllocation
+fieldsOf short = noAllocation
+
+unfoldable pub allocationAt : List ℕ → ℕ → Allocation
+allocationAt m i = fieldsOf (entryAt m i)
+
+-- those of k entries from the i-th on
+abbrev pub allocationsFrom : List ℕ → ℕ → ℕ → List Allocation
+allocationsFrom m i zero = []
+allocationsFrom m i (suc k) = allocationAt m i ∷ allocationsFrom m (suc i) k
+
+-- ---- what is still to come
 
 -- the numbers of a plan and what is counted, with the series l still to be written
 pub record Outcome : Type 0 where
@@ -77,9 +130,6 @@ outcome p w l =
 
 abbrev pub toCome : Own → List ℕ → List ℕ → Walk → Outcome
 toCome own m p w = outcome p w (planned (w .end) (w .bursts) (seriesOf (rest own m (w .at))))
-
-abbrev pub movedTo : ℕ → Walk → Walk
-movedTo at w = record { at = at; records = w .records; bursts = w .bursts; messages = w .messages; end = w .end }
 
 -- where a walk begins: the words carried over stand for the last burst
 abbrev pub starting : ℕ → Walk

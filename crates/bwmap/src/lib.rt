@@ -4,17 +4,14 @@ mod records;
 mod series;
 
 use entries::Own;
-use framing::allocation::Allocation;
 ghost use Prim.Native.Nat.{_+_, _*_, _≤_, _<_};
 ghost use mathlib.Core.Path.{_≡_};
 ghost use lib.ListN.{length};
 ghost use mathlib.Core.List.{[]};
-ghost use Rattle.entries.specs.declared.Standing.the-variants.{Head};
-ghost use Rattle.entries.specs.Standings.{standing};
 ghost use Rattle.bwmap.specs.Limits.{planNumbers};
-ghost use Rattle.bwmap.specs.Series.{entryAt, entryCount, carriedOver};
+ghost use Rattle.bwmap.specs.Series.{entryCount, carriedOver};
 ghost use Rattle.bwmap.specs.Tables.{Tables};
-ghost use Rattle.bwmap.specs.Turns.{outcome, toCome, movedTo, starting, Small};
+ghost use Rattle.bwmap.specs.Turns.{outcome, toCome, starting, Small};
 ghost use Rattle.bwmap.specs.Plan.{MapLeaves};
 use series::Next;
 
@@ -61,48 +58,7 @@ fn carried_over(end: usize) -> u16
     (end - UPSTREAM_WORDS) as u16
 }
 
-// The series whose head stands at `at`: planned and written, or passed over.
-fn burst(
-    syndromes: &[u16; 2048],
-    flips: &[u16; 4096],
-    map: &[u8],
-    own: Own,
-    at: usize,
-    h: Allocation,
-    w: Walk,
-    plan: &mut [u16],
-) -> Walk
-    requires { ⌜ Tables (now syndromes) (now flips) × (at < entryCount (now map)) × (standing own (entryAt (now map) at) ≡ Head h) × (planNumbers ≤ length (now plan)) × Small w ⌝ }
-    ensures { λ r. ⌜ Small r × (at < r .at) × (r .at ≤ entryCount (now (map .entry))) × (toCome own (now (map .entry)) (now (plan .exit)) r ≡ toCome own (now (map .entry)) (now (plan .entry)) (movedTo at w)) ⌝ }
-{
-    let from = at + 1;
-    let r = series::run_from(syndromes, flips, map, own, from);
-    let next = from + r.count;
-    let words = series::burst_words(h, r.grants);
-    let start = series::long(h.start);
-    let last = w.end;
-    let verdict = series::judge(last, w.bursts, start, words);
-    if !verdict.is_planned() {
-        return Walk {
-            at: next,
-            records: w.records,
-            bursts: w.bursts,
-            messages: w.messages,
-            end: last,
-        };
-    }
-    let place = records::NUMBERS_A_RECORD * w.records;
-    records::write_series(syndromes, flips, map, own, from, h, plan, place);
-    Walk {
-        at: next,
-        records: w.records + (r.count + 1),
-        bursts: w.bursts + 1,
-        messages: w.messages + records::mark(h.ploamu, 1),
-        end: start + words,
-    }
-}
-
-// The next series of ours, if there is one.
+// The next series that is planned, written; or none, and then the walk is at its end.
 fn turn(
     syndromes: &[u16; 2048],
     flips: &[u16; 4096],
@@ -114,14 +70,28 @@ fn turn(
     requires { ⌜ Tables (now syndromes) (now flips) × (w .at < entryCount (now map)) × (planNumbers ≤ length (now plan)) × Small w ⌝ }
     ensures { λ r. ⌜ Small r × (w .at < r .at) × (r .at ≤ entryCount (now (map .entry))) × (toCome own (now (map .entry)) (now (plan .exit)) r ≡ toCome own (now (map .entry)) (now (plan .entry)) w) ⌝ }
 {
-    match series::next_head(syndromes, flips, map, own, w.at) {
-        Next::At(at, h) => burst(syndromes, flips, map, own, at, h, w, plan),
+    let last = w.end;
+    match series::next_planned(syndromes, flips, map, own, w.at, last, w.bursts) {
+        Next::Until(next, s) => {
+            let at = next - s.entries;
+            let more = s.entries - 1;
+            let h = records::allocation_at(syndromes, flips, map, at);
+            let place = records::NUMBERS_A_RECORD * w.records;
+            records::write_series(syndromes, flips, map, at + 1, more, h, plan, place);
+            Walk {
+                at: next,
+                records: w.records + (more + 1),
+                bursts: w.bursts + 1,
+                messages: w.messages + records::mark(h.ploamu, 1),
+                end: s.start + s.words,
+            }
+        }
         Next::Nowhere => Walk {
             at: map.len() / series::STRUCTURE_OCTETS,
             records: w.records,
             bursts: w.bursts,
             messages: w.messages,
-            end: w.end,
+            end: last,
         },
     }
 }

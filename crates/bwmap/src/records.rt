@@ -1,16 +1,16 @@
 // The records of a plan.
 use super::series;
-use entries::Own;
-use entries::Standing;
 use framing::allocation::Allocation;
+use framing::allocation::AllocationRead;
+use ids::AllocId;
 ghost use Prim.Native.Nat.{_+_, _*_, _≤_, _<_};
 ghost use mathlib.Core.Path.{_≡_};
 ghost use mathlib.Core.List.{_∷_, []};
 ghost use lib.ListN.{length};
 ghost use lib.Seq.{sets};
-ghost use Rattle.bwmap.specs.Series.{run, entryCount, seriesAt};
+ghost use Rattle.bwmap.specs.Series.{entryCount};
 ghost use Rattle.bwmap.specs.Tables.{Tables};
-ghost use Rattle.bwmap.specs.Turns.{rest};
+ghost use Rattle.bwmap.specs.Turns.{noAllocation, allocationAt, allocationsFrom};
 ghost use Rattle.bwmap.specs.Plan.{mark, burstFlags, headFlags, moreFlags, planRecord, moreNumbers, seriesNumbers};
 
 // Numbers of a record.
@@ -46,6 +46,20 @@ fn more_flags(h: Allocation, a: Allocation) -> u16
     flag(a.dbru, 4) + burst_flags(h)
 }
 
+fn no_allocation() -> Allocation
+    ensures { λ r. ⌜ r ≡ noAllocation ⌝ }
+{
+    Allocation {
+        alloc: AllocId(0),
+        dbru: false,
+        ploamu: false,
+        start: 0,
+        grant: 0,
+        fwi: false,
+        profile: 0,
+    }
+}
+
 fn put(plan: &mut [u16], at: usize, a: Allocation, flags: u16, start: u16)
     requires { ⌜ at + 4 ≤ length (now plan) ⌝ }
     ensures { λ r. ⌜ now (plan .exit) ≡ sets (now (plan .entry)) at (planRecord a flags start) ⌝ }
@@ -57,68 +71,73 @@ fn put(plan: &mut [u16], at: usize, a: Allocation, flags: u16, start: u16)
     plan[at + 3] = a.grant;
 }
 
-// The records of the entries from `from` on that continue the burst of the head h.
+// The fields of the i-th entry; zeros stand for one that could not be read, and none such is planned.
+pub(crate) fn allocation_at(
+    syndromes: &[u16; 2048],
+    flips: &[u16; 4096],
+    map: &[u8],
+    i: usize,
+) -> Allocation
+    requires { ⌜ Tables (now syndromes) (now flips) × (i < entryCount (now map)) ⌝ }
+    ensures { λ r. ⌜ r ≡ allocationAt (now (map .entry)) i ⌝ }
+{
+    let at = series::STRUCTURE_OCTETS * i;
+    match framing::allocation::read_allocation_by(syndromes, flips, &map[at..]) {
+        AllocationRead::Fields(a) => a,
+        AllocationRead::Unreadable => no_allocation(),
+        AllocationRead::Short => no_allocation(),
+    }
+}
+
+// The records of `count` entries from `from` on, which continue the burst of the head h.
 fn write_more(
     syndromes: &[u16; 2048],
     flips: &[u16; 4096],
     map: &[u8],
-    own: Own,
     from: usize,
+    count: usize,
     h: Allocation,
     plan: &mut [u16],
     at: usize,
 )
-    requires { ⌜ Tables (now syndromes) (now flips) × (from ≤ entryCount (now map)) × (at + 60 ≤ length (now plan)) ⌝ }
-    ensures { λ r. ⌜ now (plan .exit) ≡ sets (now (plan .entry)) at (moreNumbers h (run 15 (rest own (now (map .entry)) from))) ⌝ }
+    requires { ⌜ Tables (now syndromes) (now flips) × (from + count ≤ entryCount (now map)) × (at + 4 * count ≤ length (now plan)) ⌝ }
+    ensures { λ r. ⌜ now (plan .exit) ≡ sets (now (plan .entry)) at (moreNumbers h (allocationsFrom (now (map .entry)) from count)) ⌝ }
 {
-    let n = map.len() / series::STRUCTURE_OCTETS;
     let mut k: usize = 0;
-    while k < series::MORE_A_BURST {
-        if n <= from + k {
-            return;
-        }
-        match series::standing_at(syndromes, flips, map, own, from + k) {
-            Standing::More(a) => {
-                put(
-                    plan,
-                    at + NUMBERS_A_RECORD * k,
-                    a,
-                    more_flags(h, a),
-                    h.start,
-                );
-                k += 1;
-            }
-            Standing::Head(_) => {
-                return;
-            }
-            Standing::Apart(_) => {
-                return;
-            }
-        }
+    while k < count {
+        let a = allocation_at(syndromes, flips, map, from + k);
+        put(
+            plan,
+            at + NUMBERS_A_RECORD * k,
+            a,
+            more_flags(h, a),
+            h.start,
+        );
+        k += 1;
     }
 }
 
-// The records of a whole burst: its head h, and the entries from `from` on that continue it.
+// The records of a whole burst: its head h, and the `count` entries from `from` on that continue it.
 pub(crate) fn write_series(
     syndromes: &[u16; 2048],
     flips: &[u16; 4096],
     map: &[u8],
-    own: Own,
     from: usize,
+    count: usize,
     h: Allocation,
     plan: &mut [u16],
     at: usize,
 )
-    requires { ⌜ Tables (now syndromes) (now flips) × (from ≤ entryCount (now map)) × (at + 64 ≤ length (now plan)) ⌝ }
-    ensures { λ r. ⌜ now (plan .exit) ≡ sets (now (plan .entry)) at (seriesNumbers (seriesAt h (rest own (now (map .entry)) from))) ⌝ }
+    requires { ⌜ Tables (now syndromes) (now flips) × (from + count ≤ entryCount (now map)) × (at + 4 + 4 * count ≤ length (now plan)) ⌝ }
+    ensures { λ r. ⌜ now (plan .exit) ≡ sets (now (plan .entry)) at (seriesNumbers (record { head = h; more = allocationsFrom (now (map .entry)) from count })) ⌝ }
 {
     put(plan, at, h, head_flags(h), h.start);
     write_more(
         syndromes,
         flips,
         map,
-        own,
         from,
+        count,
         h,
         plan,
         at + NUMBERS_A_RECORD,

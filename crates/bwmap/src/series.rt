@@ -1,15 +1,15 @@
-// The series of a map: the next head of ours, the entries that continue it, and what becomes of it.
+// The series of a map: the entries of ours that make one, and what becomes of it.
 use entries::Own;
 use entries::Standing;
 use entries::Verdict;
 use framing::allocation::Allocation;
-ghost use Prim.Native.Nat.{_+_, _-_, _*_, _≤_, _<_};
+ghost use Prim.Native.Nat.{_≤_, _<_};
 ghost use mathlib.Core.Path.{_≡_};
-ghost use lib.ListN.{length};
+ghost use mathlib.Core.Bool.{true};
 ghost use Rattle.entries.specs.Standings.{standing};
-ghost use Rattle.bwmap.specs.Series.{entryAt, entryCount, run, wordsOf, judged};
+ghost use Rattle.bwmap.specs.Series.{entryAt, entryCount, wordsOf, judged};
 ghost use Rattle.bwmap.specs.Tables.{Tables};
-ghost use Rattle.bwmap.specs.Turns.{rest, seen, NextHead, tally};
+ghost use Rattle.bwmap.specs.Turns.{closed, opened, joined, goesOn, fits, Modest, NextPlanned};
 
 // Octets of an allocation structure.
 pub(crate) const STRUCTURE_OCTETS: usize = 8;
@@ -18,7 +18,7 @@ pub(crate) const STRUCTURE_OCTETS: usize = 8;
 pub(crate) const BURSTS_A_FRAME: usize = 4;
 
 // Entries that may follow the head of a burst.
-pub(crate) const MORE_A_BURST: usize = 15;
+const MORE_A_BURST: usize = 15;
 
 // Words of a burst.
 const WORDS_A_BURST: usize = 9720;
@@ -26,23 +26,18 @@ const WORDS_A_BURST: usize = 9720;
 // Words of a PLOAMu.
 const PLOAMU_WORDS: usize = 12;
 
+// A series as far as it is read: its entries, none where no series is open; the word where its burst starts, and the
+// words of that burst.
+pub struct Open {
+    pub entries: usize,
+    pub start: usize,
+    pub words: usize,
+}
+
+// The next series that is planned, read until the entry before which it ends.
 pub enum Next {
-    At(usize, Allocation),
+    Until(usize, Open),
     Nowhere,
-}
-
-// What a look at entries finds first.
-pub enum Seen {
-    Head(usize, Allocation),
-    More(Allocation),
-    Apart(Verdict),
-    Nothing,
-}
-
-// How many entries continue a burst, and the sum of their GrantSizes.
-pub struct Run {
-    pub count: usize,
-    pub grants: usize,
 }
 
 pub(crate) fn long(x: u16) -> usize
@@ -60,124 +55,53 @@ fn read_at(syndromes: &[u16; 2048], flips: &[u16; 4096], map: &[u8], own: Own, i
     own.standing_by(syndromes, flips, &map[at..])
 }
 
-// The first of the entries from `from` to `to`, or the first head of ours among them. All reading is done here, in one
-// loop: most entries of a map are foreign.
-fn scan(
-    syndromes: &[u16; 2048],
-    flips: &[u16; 4096],
-    map: &[u8],
-    own: Own,
-    from: usize,
-    to: usize,
-    heads: bool,
-) -> Seen
-    requires { ⌜ Tables (now syndromes) (now flips) × (to ≤ entryCount (now map)) ⌝ }
-    ensures { λ r. ⌜ r ≡ seen own (now (map .entry)) heads from (to - from) ⌝ }
+// The words of a burst of which the head alone is read.
+fn head_words(h: Allocation) -> usize
+    ensures { λ r. ⌜ (r ≡ wordsOf h 0) × (r ≤ 65549) ⌝ }
 {
-    let mut i = from;
-    while i < to {
-        match read_at(syndromes, flips, map, own, i) {
-            Standing::Head(h) => {
-                return Seen::Head(i, h);
-            }
-            Standing::More(a) => {
-                if !heads {
-                    return Seen::More(a);
-                }
-                i += 1;
-            }
-            Standing::Apart(v) => {
-                if !heads {
-                    return Seen::Apart(v);
-                }
-                i += 1;
-            }
-        }
-    }
-    Seen::Nothing
-}
-
-pub(crate) fn next_head(
-    syndromes: &[u16; 2048],
-    flips: &[u16; 4096],
-    map: &[u8],
-    own: Own,
-    from: usize,
-) -> Next
-    requires { ⌜ Tables (now syndromes) (now flips) ⌝ }
-    ensures { λ r. ⌜ NextHead own (now (map .entry)) from r ⌝ }
-{
-    let n = map.len() / STRUCTURE_OCTETS;
-    match scan(syndromes, flips, map, own, from, n, true) {
-        Seen::Head(i, h) => Next::At(i, h),
-        Seen::More(_) => Next::Nowhere,
-        Seen::Apart(_) => Next::Nowhere,
-        Seen::Nothing => Next::Nowhere,
-    }
-}
-
-// The i-th entry of a map, by itself.
-pub(crate) fn standing_at(
-    syndromes: &[u16; 2048],
-    flips: &[u16; 4096],
-    map: &[u8],
-    own: Own,
-    i: usize,
-) -> Standing
-    requires { ⌜ Tables (now syndromes) (now flips) × (i < entryCount (now map)) ⌝ }
-    ensures { λ r. ⌜ r ≡ standing own (entryAt (now (map .entry)) i) ⌝ }
-{
-    match scan(syndromes, flips, map, own, i, i + 1, false) {
-        Seen::Head(_, h) => Standing::Head(h),
-        Seen::More(a) => Standing::More(a),
-        Seen::Apart(v) => Standing::Apart(v),
-        Seen::Nothing => Standing::Apart(Verdict::Unreadable),
-    }
-}
-
-// The entries from `from` on that continue a burst.
-pub(crate) fn run_from(
-    syndromes: &[u16; 2048],
-    flips: &[u16; 4096],
-    map: &[u8],
-    own: Own,
-    from: usize,
-) -> Run
-    requires { ⌜ Tables (now syndromes) (now flips) × (from ≤ entryCount (now map)) ⌝ }
-    ensures { λ r. ⌜ (r ≡ tally 0 0 (run 15 (rest own (now (map .entry)) from))) × (r .count ≤ 15) × (r .grants ≤ 983025) ⌝ }
-{
-    let n = map.len() / STRUCTURE_OCTETS;
-    let mut k: usize = 0;
-    let mut grants: usize = 0;
-    while k < MORE_A_BURST {
-        if n <= from + k {
-            return Run { count: k, grants };
-        }
-        match standing_at(syndromes, flips, map, own, from + k) {
-            Standing::More(a) => {
-                grants += long(a.grant);
-                k += 1;
-            }
-            Standing::Head(_) => {
-                return Run { count: k, grants };
-            }
-            Standing::Apart(_) => {
-                return Run { count: k, grants };
-            }
-        }
-    }
-    Run { count: k, grants }
-}
-
-pub(crate) fn burst_words(h: Allocation, grants: usize) -> usize
-    requires { ⌜ grants ≤ 983025 ⌝ }
-    ensures { λ r. ⌜ r ≡ wordsOf h grants ⌝ }
-{
-    let g = long(h.grant) + grants;
+    let g = long(h.grant);
     if h.ploamu {
         return 1 + PLOAMU_WORDS + g + 1;
     }
     1 + 0 + g + 1
+}
+
+fn closed() -> Open
+    ensures { λ r. ⌜ r ≡ closed ⌝ }
+{
+    Open {
+        entries: 0,
+        start: 0,
+        words: 0,
+    }
+}
+
+fn opened(h: Allocation) -> Open
+    ensures { λ r. ⌜ (r ≡ opened h) × Modest r ⌝ }
+{
+    Open {
+        entries: 1,
+        start: long(h.start),
+        words: head_words(h),
+    }
+}
+
+// Whether an entry of ours that continues goes the series on: one must be open, and a seventeenth closes it.
+fn goes_on(s: Open) -> bool
+    ensures { λ r. ⌜ r ≡ goesOn s ⌝ }
+{
+    0 < s.entries && s.entries <= MORE_A_BURST
+}
+
+fn joined(s: Open, a: Allocation) -> Open
+    requires { ⌜ Modest s × (goesOn s ≡ true) ⌝ }
+    ensures { λ r. ⌜ (r ≡ joined s a) × Modest r ⌝ }
+{
+    Open {
+        entries: s.entries + 1,
+        start: s.start,
+        words: s.words + long(a.grant),
+    }
 }
 
 // What becomes of a burst of so many words at `start`, after so many planned ones of which the last ends at `end`.
@@ -194,4 +118,68 @@ pub(crate) fn judge(end: usize, bursts: usize, start: usize, words: usize) -> Ve
         return Verdict::AfterTheFourth;
     }
     Verdict::Planned
+}
+
+// Whether a series is open and, as it ends, planned.
+fn fits(end: usize, bursts: usize, s: Open) -> bool
+    ensures { λ r. ⌜ r ≡ fits end bursts s ⌝ }
+{
+    if 0 < s.entries {
+        let verdict = judge(end, bursts, s.start, s.words);
+        return verdict.is_planned();
+    }
+    false
+}
+
+// The next series from `from` on that is planned, after so many bursts of which the last ends at `end`. Each entry is
+// read once, in one loop, and series that are passed over stay in it: most entries of a map are foreign.
+pub(crate) fn next_planned(
+    syndromes: &[u16; 2048],
+    flips: &[u16; 4096],
+    map: &[u8],
+    own: Own,
+    from: usize,
+    end: usize,
+    bursts: usize,
+) -> Next
+    requires { ⌜ Tables (now syndromes) (now flips) × (from ≤ entryCount (now map)) ⌝ }
+    ensures { λ r. ⌜ NextPlanned own (now (map .entry)) end bursts from r ⌝ }
+{
+    let n = map.len() / STRUCTURE_OCTETS;
+    let mut s = closed();
+    let mut i = from;
+    while i < n {
+        match read_at(syndromes, flips, map, own, i) {
+            Standing::Head(h) => {
+                if fits(end, bursts, s) {
+                    return Next::Until(i, s);
+                }
+                s = opened(h);
+                i += 1;
+            }
+            Standing::More(a) => {
+                if goes_on(s) {
+                    s = joined(s, a);
+                    i += 1;
+                } else {
+                    if fits(end, bursts, s) {
+                        return Next::Until(i, s);
+                    }
+                    s = closed();
+                    i += 1;
+                }
+            }
+            Standing::Apart(_) => {
+                if fits(end, bursts, s) {
+                    return Next::Until(i, s);
+                }
+                s = closed();
+                i += 1;
+            }
+        }
+    }
+    if fits(end, bursts, s) {
+        return Next::Until(i, s);
+    }
+    Next::Nowhere
 }

@@ -1,4 +1,6 @@
 // The entries of the bandwidth map (clause 8.1.2), each by itself: read, usable or not, and whose it is.
+mod reading;
+
 use framing::allocation::Allocation;
 use framing::allocation::AllocationRead;
 use ids::AllocId;
@@ -219,7 +221,6 @@ impl Own {
     pub fn standing_by(self, syndromes: &[u16; 2048], flips: &[u16; 4096], s: &[u8]) -> Standing
         ensures { λ r. ⌜ r ≡ standing self (readBy (now (syndromes .entry)) (now (flips .entry)) (now (s .entry))) ⌝ }
     {
-        let read = framing::allocation::read_allocation_by(syndromes, flips, s);
-        self.standing(read)
+        self.standing(reading::read_entry(syndromes, flips, s))
     }
 }

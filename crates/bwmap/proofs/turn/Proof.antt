@@ -1,23 +1,73 @@
 -- `bwmap::turn` meets its contract.
 -- Assumes nothing.
-use mathlib.Core.Path.{_∙_, sym, ap}
 use native.Mathlib.Omega.{arith}
 use denote.Ref.{now}
-use Rattle.bwmap.proofs.Steps.{move-to, move-past}
+use Rattle.bwmap.proofs.Steps.{move-past}
+use Rattle.bwmap.proofs.Opens.{sizes, plan-next}
 use borrow.Author.Needs.{needs}
 use Rattle.bwmap.proofs.turn.Statement.{statement}
 use Rattle.bwmap.proofs.turn.Tie as tie
 
-next-head-requires : tie.Need-next-head-requires
-next-head-requires c κs = search needs
+next-planned-requires : tie.Need-next-planned-requires
+next-planned-requires c κs = search needs
 
-enum-known-at : tie.Need-enum-known-at
-enum-known-at c = search needs
+enum-known-next : tie.Need-enum-known-next
+enum-known-next c = search needs
 
-burst-requires : tie.Need-burst-requires
-burst-requires c κs =
-    let n = rw (c .before .before .at .given .1) at (c .before .before .before .before .next-head .ensures) in
-    (c .before .before .before .before .before .before .before .pre .0, n .1, n .2, c .before .before .before .before .before .before .before .pre .2, c .before .before .before .before .before .before .before .pre .3)
+sub-at : tie.Need-sub-at
+sub-at c =
+    let a = c .before .before .before .before .before .before .before .args in
+    omega (arith, sizes (a .own) (now (a .map)) (now (a .plan)) (a .w) _ _ (rw (c .before .before .next .given .1) at (c .before .before .before .before .next-planned .ensures)))
+
+sub-more : tie.Need-sub-more
+sub-more c =
+    let a = c .before .before .before .before .before .before .before .before .args in
+    omega (arith, sizes (a .own) (now (a .map)) (now (a .plan)) (a .w) _ _ (rw (c .before .before .before .next .given .1) at (c .before .before .before .before .before .next-planned .ensures)))
+
+allocation-at-requires : tie.Need-allocation-at-requires
+allocation-at-requires c κs =
+    let a = c .before .before .before .before .before .before .before .before .args in
+    (c .before .before .before .before .before .before .before .before .pre .0, omega (arith, sizes (a .own) (now (a .map)) (now (a .plan)) (a .w) _ _ (rw (c .before .before .before .next .given .1) at (c .before .before .before .before .before .next-planned .ensures))))
+
+mul-place : tie.Need-mul-place
+mul-place c = search needs
+
+add-write-series : tie.Need-add-write-series
+add-write-series c =
+    let a = c .before .before .before .before .before .before .before .before .before .before .args in
+    omega (arith, sizes (a .own) (now (a .map)) (now (a .plan)) (a .w) _ _ (rw (c .before .before .before .before .before .next .given .1) at (c .before .before .before .before .before .before .before .next-planned .ensures)))
+
+write-series-requires : tie.Need-write-series-requires
+write-series-requires c κs =
+    let a = c .before .before .before .before .before .before .before .before .before .before .before .args in
+    let t = sizes (a .own) (now (a .map)) (now (a .plan)) (a .w) _ _ (rw (c .before .before .before .before .before .before .next .given .1) at (c .before .before .before .before .before .before .before .before .next-planned .ensures)) in
+    (c .before .before .before .before .before .before .before .before .before .before .before .pre .0, omega (arith, t), omega (arith, t, c .before .before .before .before .before .before .before .before .before .before .before .pre .2, c .before .before .before .before .before .before .before .before .before .before .before .pre .3 .room))
+
+add-t17 : tie.Need-add-t17
+add-t17 c = search needs
+
+add-t20 : tie.Need-add-t20
+add-t20 c =
+    let a = c .before .before .before .before .before .before .before .before .before .before .before .before .before .before .before .args in
+    omega (arith, sizes (a .own) (now (a .map)) (now (a .plan)) (a .w) _ _ (rw (c .before .before .before .before .before .before .before .before .before .before .next .given .1) at (c .before .before .before .before .before .before .before .before .before .before .before .before .next-planned .ensures)), c .before .before .before .before .before .before .before .before .before .before .before .before .before .before .before .pre .3 .room)
+
+add-t21 : tie.Need-add-t21
+add-t21 c =
+    let a = c .before .before .before .before .before .before .before .before .before .before .before .before .before .before .before .before .args in
+    omega (arith, sizes (a .own) (now (a .map)) (now (a .plan)) (a .w) _ _ (rw (c .before .before .before .before .before .before .before .before .before .before .before .next .given .1) at (c .before .before .before .before .before .before .before .before .before .before .before .before .before .next-planned .ensures)))
+
+mark-requires : tie.Need-mark-requires
+mark-requires c κs = search needs
+
+add-t23 : tie.Need-add-t23
+add-t23 c =
+    let a = c .before .before .before .before .before .before .before .before .before .before .before .before .before .before .before .before .before .before .args in
+    omega (arith, sizes (a .own) (now (a .map)) (now (a .plan)) (a .w) _ _ (rw (c .before .before .before .before .before .before .before .before .before .before .before .before .before .next .given .1) at (c .before .before .before .before .before .before .before .before .before .before .before .before .before .before .before .next-planned .ensures)), c .before .before .before .before .before .before .before .before .before .before .before .before .before .before .before .before .before .before .pre .3 .sent, c .before .mark .ensures .1)
+
+add-t24 : tie.Need-add-t24
+add-t24 c =
+    let a = c .before .before .before .before .before .before .before .before .before .before .before .before .before .before .before .before .before .before .before .args in
+    omega (arith, sizes (a .own) (now (a .map)) (now (a .plan)) (a .w) _ _ (rw (c .before .before .before .before .before .before .before .before .before .before .before .before .before .before .next .given .1) at (c .before .before .before .before .before .before .before .before .before .before .before .before .before .before .before .before .next-planned .ensures)))
 
 enum-told : tie.Need-enum-told
 enum-told c = search needs
@@ -27,24 +77,37 @@ same-length c = search needs
 
 returns : tie.Need-returns
 returns c =
-    let a = c .before .before .before .before .before .before .before .before .before .before .args in
-    let n = rw (c .before .before .before .before .before .at .given .1) at (c .before .before .before .before .before .before .before .next-head .ensures) in
-    (c .before .before .burst .ensures .0, omega (arith, n .0, c .before .before .burst .ensures .1), c .before .before .burst .ensures .2, c .before .before .burst .ensures .3 ∙ move-to (a .own) (now (a .map)) (now (a .plan)) (a .w) _ (n .3))
+    let a = c .before .before .before .before .before .before .before .before .before .before .before .before .before .before .before .before .before .before .before .args in
+    let s = c .before .before .before .before .before .before .before .before .before .before .before .before .before .before .before .before .before .before .before .pre .3 in
+    let d = rw (c .before .before .before .before .before .before .before .before .before .before .before .before .before .before .next .given .1) at (c .before .before .before .before .before .before .before .before .before .before .before .before .before .before .before .before .next-planned .ensures) in
+    let t = sizes (a .own) (now (a .map)) (now (a .plan)) (a .w) _ _ d in
+    (record { few = omega (arith, t); room = omega (arith, t, s .room); sent = omega (arith, s .sent, c .before .before .mark .ensures .1); low = omega (arith, t) }, t .3, t .4, plan-next (a .own) (now (a .map)) (now (a .plan)) (a .w) _ _ d (c .before .before .before .before .before .before .before .before .before .before .allocation-at .result) (c .before .before .before .before .before .before .before .before .before .before .allocation-at .ensures) _ _ (c .before .before .before .before .before .before .before .write-series .ensures) (c .before .before .mark .ensures .0))
 
 returns-2 : tie.Need-returns-2
 returns-2 c =
     let a = c .before .before .before .before .before .args in
     let s = c .before .before .before .before .before .pre .3 in
-    let n = rw (c .enum-told .given .1) at (c .before .before .next-head .ensures) in
+    let n = rw (c .enum-told .given .1) at (c .before .before .next-planned .ensures) in
     (record { few = s .few; room = s .room; sent = s .sent; low = s .low }, c .before .before .before .before .before .pre .1, omega arith, move-past (a .own) (now (a .map)) (now (a .plan)) (a .w) n)
 
 pub turn-spec : {M : Type 1} → statement M
 turn-spec =
     tie.close
     (tie.spec
-    next-head-requires
-    enum-known-at
-    burst-requires
+    next-planned-requires
+    enum-known-next
+    sub-at
+    sub-more
+    allocation-at-requires
+    mul-place
+    add-write-series
+    write-series-requires
+    add-t17
+    add-t20
+    add-t21
+    mark-requires
+    add-t23
+    add-t24
     enum-told
     same-length
     returns

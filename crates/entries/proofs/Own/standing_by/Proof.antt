@@ -6,14 +6,14 @@ use borrow.Author.Needs.{needs}
 use Rattle.entries.proofs.Own.standing_by.Statement.{statement}
 use Rattle.entries.proofs.Own.standing_by.Tie as tie
 
-read-allocation-by-requires : tie.Need-read-allocation-by-requires
-read-allocation-by-requires c κs = search needs
+read-entry-requires : tie.Need-read-entry-requires
+read-entry-requires c κs = search needs
 
 standing-requires : tie.Need-standing-requires
 standing-requires c κs = search needs
 
 returns : tie.Need-returns
-returns c = c .standing .ensures ∙ ap (standing (c .before .before .before .args .self)) (c .before .read-allocation-by .ensures)
+returns c = c .standing .ensures ∙ ap (standing (c .before .before .before .args .self)) (c .before .read-entry .ensures)
 
 pub standing-by-spec : {M : Type 1} → statement M
-standing-by-spec = tie.close (tie.spec read-allocation-by-requires standing-requires returns)
+standing-by-spec = tie.close (tie.spec read-entry-requires standing-requires returns)

@@ -1,15 +1,13 @@
--- `bwmap::series::burst_words` meets its contract.
+-- `bwmap::series::head_words` meets its contract.
 -- Assumes nothing.
+use native.Mathlib.Omega.{arith}
 use Rattle.bwmap.specs.Series.{wordsOf}
 use borrow.Author.Needs.{needs}
-use Rattle.bwmap.proofs.series.burst_words.Statement.{statement}
-use Rattle.bwmap.proofs.series.burst_words.Tie as tie
+use Rattle.bwmap.proofs.series.head_words.Statement.{statement}
+use Rattle.bwmap.proofs.series.head_words.Tie as tie
 
 long-requires : tie.Need-long-requires
 long-requires c κs = search needs
-
-add-g : tie.Need-add-g
-add-g c = search needs
 
 add-result : tie.Need-add-result
 add-result c = search needs
@@ -22,7 +20,7 @@ add-result-3 c = search needs
 
 returns : tie.Need-returns
 unfolding wordsOf
-returns c = rw (c .if1 .taken) (cc)
+returns c = (rw (c .if1 .taken) (omega (arith, c .before .long .ensures)), omega (arith, c .before .long .ensures))
 
 add-result-4 : tie.Need-add-result-4
 add-result-4 c = search needs
@@ -35,14 +33,13 @@ add-result-6 c = search needs
 
 returns-2 : tie.Need-returns-2
 unfolding wordsOf
-returns-2 c = rw (c .if1 .left) (cc)
+returns-2 c = (rw (c .if1 .left) (omega (arith, c .before .long .ensures)), omega (arith, c .before .long .ensures))
 
-pub burst-words-spec : {M : Type 1} → statement M
-burst-words-spec =
+pub head-words-spec : {M : Type 1} → statement M
+head-words-spec =
     tie.close
     (tie.spec
     long-requires
-    add-g
     add-result
     add-result-2
     add-result-3

@@ -1,0 +1,238 @@
+-- The series that is open, as the entries of a map are read one after another.
+-- Assumes nothing.
+use Prim.Native.Nat.{ℕ, zero, suc, _+_, _-_, _*_, _≤_, _<_, _^_}
+use mathlib.Core.Path.{_≡_, _∙_, refl, sym, ap, ap₂}
+use mathlib.Core.List.{List, [], _∷_}
+use mathlib.Core.Bool.{Bool, true, false, _&&_, true≢false, false≢true}
+use native.Mathlib.Omega.{arith}
+use lib.Dec.{ltb, leb}
+use lib.ListN.{length}
+use lib.Seq.{sets}
+use borrow.Author.Tests.{lt-ltb, ltb-true, ltb-false, leb-true, leb-false}
+use Rattle.framing.specs.declared.allocation.Allocation.{Allocation}
+use Rattle.entries.specs.declared.Own.{Own}
+use Rattle.entries.specs.declared.Verdict.{Verdict}
+use Rattle.entries.specs.declared.Standing.{Standing}
+use Rattle.entries.specs.declared.Standing.the-variants.{Apart, Head, More}
+use Rattle.entries.specs.Standings.{standing, isPlanned}
+use Rattle.entries.proofs.Facts.{ours-is}
+use Rattle.bwmap.specs.Series.{Series, entryAt, entryCount, standingsFrom, run, seriesAt, seriesOf, wordsOf, judged, planned}
+use Rattle.bwmap.specs.Plan.{mark, seriesNumbers}
+use Rattle.bwmap.specs.Turns.{rest, Run, tally, closed, opened, joined, goesOn, fits, Modest, Running, Stage, between, within, Reached, fieldsOf, allocationAt, allocationsFrom, toCome}
+use Rattle.bwmap.specs.declared.series.Open.{Open}
+use Rattle.bwmap.specs.declared.Walk.{Walk}
+use Rattle.bwmap.proofs.Laws.{rest-nil, pass-apart, pass-more, stop-end, stop-full, stop-head, stop-apart, go-on, tally-step, tally-done}
+use Rattle.bwmap.proofs.Steps.{planned-facts, head-low, count-is, judged-so, pass-series, plan-series}
+
+-- ---- its tests
+
+pub goes-on-facts : (s : Open) → goesOn s ≡ true → (0 < s .entries) × (s .entries ≤ 15)
+unfolding goesOn
+goes-on-facts s h = go (ltb 0 (s .entries)) (leb (s .entries) 15) refl refl h
+  where
+    go : (a b : Bool) → ltb 0 (s .entries) ≡ a → leb (s .entries) 15 ≡ b → (a && b) ≡ true → (0 < s .entries) × (s .entries ≤ 15)
+    go true true p q e = (ltb-true 0 (s .entries) p, leb-true (s .entries) 15 q)
+    go true false p q e = absurd (false≢true e)
+    go false b p q e = absurd (false≢true e)
+
+full-or-none : (s : Open) (k : ℕ) → goesOn s ≡ false → s .entries ≡ k + 1 → 15 ≤ k
+unfolding goesOn
+full-or-none s k h one = go (ltb 0 (s .entries)) (leb (s .entries) 15) refl refl h
+  where
+    go : (a b : Bool) → ltb 0 (s .entries) ≡ a → leb (s .entries) 15 ≡ b → (a && b) ≡ false → 15 ≤ k
+    go true true p q e = absurd (true≢false e)
+    go true false p q e = omega (arith, leb-false (s .entries) 15 q)
+    go false b p q e = omega (arith, ltb-false 0 (s .entries) p)
+
+pub fits-facts : (e n : ℕ) (s : Open) → fits e n s ≡ true → (0 < s .entries) × (isPlanned (judged e n (s .start) (s .words)) ≡ true)
+unfolding fits
+fits-facts e n s h = go (ltb 0 (s .entries)) refl h
+  where
+    go : (a : Bool) → ltb 0 (s .entries) ≡ a → (a && isPlanned (judged e n (s .start) (s .words))) ≡ true → (0 < s .entries) × (isPlanned (judged e n (s .start) (s .words)) ≡ true)
+    go true p q = (ltb-true 0 (s .entries) p, q)
+    go false p q = absurd (false≢true q)
+
+unfit : (e n : ℕ) (s : Open) → 0 < s .entries → fits e n s ≡ false → isPlanned (judged e n (s .start) (s .words)) ≡ false
+unfolding fits
+unfit e n s h f = sym (rw (lt-ltb 0 (s .entries) h)) ∙ f
+
+pub closed-modest : (s : Open) → s ≡ closed → Modest s
+closed-modest s e = rw e (record { few = omega arith; start = omega arith; words = omega arith })
+
+-- ---- one entry further
+
+more-words : (h : Allocation) (g x : ℕ) → wordsOf h g + x ≡ wordsOf h (g + x)
+unfolding wordsOf
+more-words h g x = omega arith
+
+-- an entry that goes no series on
+abbrev Stops : Own → List ℕ → ℕ → Open → Type 0
+Stops own m i s = (k : ℕ) → s .entries ≡ k + 1 → run (15 - k) (rest own m i) ≡ []
+
+module _ (own : Own) (m : List ℕ) (e n from i : ℕ) (s : Open) where
+  module _ (r : Running own m from i s) (stops : run (15 - r .more) (rest own m i) ≡ []) where
+    abbrev counted : Run
+    counted = record { count = r .more; grants = r .grants }
+
+    counted-so : counted ≡ tally 0 0 (run 15 (rest own m (r .at + 1)))
+    counted-so = tally-done (r .more) (r .grants) _ stops ∙ r .so-far
+
+  shut
+      : Stage own m e n from i s → Stops own m i s → fits e n s ≡ false
+      → planned e n (seriesOf (rest own m i)) ≡ planned e n (seriesOf (rest own m from))
+  shut (between o p) stops f = p
+  shut (within r p) stops f =
+      let d = stops (r .more) (ap (λ (x : Open). x .entries) (r .is)) in
+      let so = counted-so r d in
+      let u : isPlanned (judged e n (s .start) (s .words)) ≡ false = unfit e n s (omega (arith, ap (λ (x : Open). x .entries) (r .is))) f in
+      let v = judged-so own m (r .at) (r .head) (r .lies) (r .stands) (counted r d) so e n (s .start) (s .words) (ap (λ (x : Open). x .start) (r .is)) (ap (λ (x : Open). x .words) (r .is)) in
+      ap (λ (j : ℕ). planned e n (seriesOf (rest own m j))) (r .here)
+      ∙ pass-series own m (r .at) (r .head) (r .lies) (r .stands) (counted r d) so e n (ap isPlanned (sym v) ∙ u)
+      ∙ p
+
+  -- at the end of the map, or before an entry that does not go it on, a series that fits is the next one planned
+  pub reached
+      : Stage own m e n from i s → Stops own m i s → fits e n s ≡ true → s .start < 65536 → i ≤ entryCount m → Reached own m e n from i s
+  reached (between o p) stops f low ends =
+      let z : s .entries ≡ 0 = ap (λ (x : Open). x .entries) o in
+      let w : ⊥ = omega (arith, fits-facts e n s f .0) in
+      absurd w
+  reached (within r p) stops f low ends =
+      record { low = low; ends = ends; running = r; stops = stops (r .more) (ap (λ (x : Open). x .entries) (r .is)); fit = fits-facts e n s f .1; next = p }
+
+  pub none-left
+      : Stage own m e n from i s → entryCount m ≤ i → fits e n s ≡ false → planned e n (seriesOf (rest own m from)) ≡ []
+  none-left g h f =
+      sym (shut g (λ k q. stop-end own m i k h) f) ∙ ap (λ (l : List Standing). planned e n (seriesOf l)) (rest-nil own m i h)
+
+  pub ended : entryCount m ≤ i → Stops own m i s
+  ended h k q = stop-end own m i k h
+
+  module _ (x : Standing) (h : i < entryCount m) (p : x ≡ standing own (entryAt m i)) where
+    pub head-stops : (a : Allocation) → x ≡ Head a → Stops own m i s
+    head-stops a q k o = stop-head own m i k x h p a q
+
+    pub apart-stops : (v : Verdict) → x ≡ Apart v → Stops own m i s
+    apart-stops v q k o = stop-apart own m i k x h p v q
+
+    pub more-stops : goesOn s ≡ false → Stops own m i s
+    more-stops f k o = stop-full own m i k (full-or-none s k f o)
+
+    pub open-next
+        : (a : Allocation) (s′ : Open) → x ≡ Head a → s′ ≡ opened a → from ≤ i → Stage own m e n from i s → fits e n s ≡ false → Stage own m e n from (i + 1) s′
+    open-next a s′ q is after g f =
+        within (record { at = i; head = a; more = 0; grants = 0; after = after; lies = h; stands = sym p ∙ q; here = omega arith; few = omega arith; is = is; so-far = refl })
+        (shut g (head-stops a q) f)
+
+    pub pass-stray
+        : (a : Allocation) (s′ : Open) → x ≡ More a → s′ ≡ closed → goesOn s ≡ false → Stage own m e n from i s → fits e n s ≡ false → Stage own m e n from (i + 1) s′
+    pass-stray a s′ q is o g f = between is (ap (planned e n) (pass-more own m i x h p a q) ∙ shut g (more-stops o) f)
+
+    pub pass-by : (v : Verdict) (s′ : Open) → x ≡ Apart v → s′ ≡ closed → Stage own m e n from i s → fits e n s ≡ false → Stage own m e n from (i + 1) s′
+    pass-by v s′ q is g f = between is (ap (planned e n) (pass-apart own m i x h p v q) ∙ shut g (apart-stops v q) f)
+
+    pub go-further : (a : Allocation) (s′ : Open) → x ≡ More a → s′ ≡ joined s a → goesOn s ≡ true → Stage own m e n from i s → Stage own m e n from (i + 1) s′
+    go-further a s′ q is o (between z p′) =
+        let y : s .entries ≡ 0 = ap (λ (x : Open). x .entries) z in
+        let w : ⊥ = omega (arith, goes-on-facts s o .0) in
+        absurd w
+    go-further a s′ q is o (within r p′) =
+        let y : s .entries ≡ r .more + 1 = ap (λ (x : Open). x .entries) (r .is) in
+        let t : r .more < 15 = omega (arith, goes-on-facts s o .1) in
+        within
+        (record {
+          at = r .at;
+          head = r .head;
+          more = r .more + 1;
+          grants = r .grants + a .grant;
+          after = r .after;
+          lies = r .lies;
+          stands = r .stands;
+          here = omega (arith, r .here);
+          few = omega arith;
+          is =
+              is ∙ ap (λ (z : Open). joined z a) (r .is)
+              ∙ ap (λ (z : ℕ). record { entries = r .more + 1 + 1; start = r .head .start; words = z }) (more-words (r .head) (r .grants) (a .grant));
+          so-far =
+              tally-step (r .more) (r .grants) (a .grant) a _ _ (go-on own m i (r .more) x h p a (i + 1) q t refl) refl
+              ∙ r .so-far;
+        })
+        p′
+
+-- ---- a series that is planned
+
+module _ (own : Own) (m : List ℕ) where
+  allocation-is : (i : ℕ) (a : Allocation) → standing own (entryAt m i) ≡ More a → allocationAt m i ≡ a
+  unfolding allocationAt
+  allocation-is i a q = ap fieldsOf (ours-is own (entryAt m i) a true q .read)
+
+  head-is : (i : ℕ) (a : Allocation) → standing own (entryAt m i) ≡ Head a → allocationAt m i ≡ a
+  unfolding allocationAt
+  head-is i a q = ap fieldsOf (ours-is own (entryAt m i) a false q .read)
+
+  -- what continues a head reads as it stands
+  allocations-are : (k i c : ℕ) → allocationsFrom m i (length (run k (standingsFrom own m i c))) ≡ run k (standingsFrom own m i c)
+  allocations-are zero i c = refl
+  allocations-are (suc k) i zero = refl
+  allocations-are (suc k) i (suc c) = go (standing own (entryAt m i)) refl (allocations-are k (suc i) c)
+    where
+      go : (x : Standing) → standing own (entryAt m i) ≡ x
+          → allocationsFrom m (suc i) (length (run k (standingsFrom own m (suc i) c))) ≡ run k (standingsFrom own m (suc i) c)
+          → allocationsFrom m i (length (run (suc k) (x ∷ standingsFrom own m (suc i) c))) ≡ run (suc k) (x ∷ standingsFrom own m (suc i) c)
+      go (Apart v) q ih = refl
+      go (Head a) q ih = refl
+      go (More a) q ih = ap₂ _∷_ (allocation-is i a q) ih
+
+module _ (own : Own) (m p : List ℕ) (w : Walk) (i : ℕ) (s : Open) (d : Reached own m (w .end) (w .bursts) (w .at) i s) where
+  abbrev r : Running own m (w .at) i s
+  r = d .running
+
+  abbrev read : Run
+  read = counted own m (w .end) (w .bursts) (w .at) i s r (d .stops)
+
+  read-so : read ≡ tally 0 0 (run 15 (rest own m (r .at + 1)))
+  read-so = counted-so own m (w .end) (w .bursts) (w .at) i s r (d .stops)
+
+  entries-are : s .entries ≡ r .more + 1
+  entries-are = ap (λ (x : Open). x .entries) (r .is)
+
+  place-is : i - s .entries ≡ r .at
+  place-is = omega (arith, entries-are, r .here)
+
+  more-are : s .entries - 1 ≡ r .more
+  more-are = omega (arith, entries-are)
+
+  starts : s .start ≡ r .head .start
+  starts = ap (λ (x : Open). x .start) (r .is)
+
+  -- its numbers, and those of the walk
+  pub sizes
+      : (1 ≤ s .entries) × (s .entries ≤ 16) × (s .entries ≤ i) × (w .at < i) × (i ≤ entryCount m) × (s .start ≤ 9719) × (s .words ≤ 9720) × (w .bursts < 4)
+  sizes =
+      let wide : r .head .start < 2 ^ 16 = omega (arith, starts, d .low) in
+      let low = head-low own m (r .at) (r .head) (r .lies) (r .stands) read read-so wide in
+      let f = planned-facts (w .end) (w .bursts) (s .start) (s .words) (d .fit) in
+      (omega (arith, entries-are), omega (arith, entries-are, r .few), omega (arith, entries-are, r .here), omega (arith, r .after, r .here), d .ends, omega (arith, starts, low), f .0, f .2)
+
+  module _ (h : Allocation) (hh : h ≡ allocationAt m (i - s .entries)) where
+    head-so : h ≡ r .head
+    head-so = hh ∙ ap (allocationAt m) place-is ∙ head-is own m (r .at) (r .head) (r .stands)
+
+    more-so : allocationsFrom m (i - s .entries + 1) (s .entries - 1) ≡ run 15 (rest own m (r .at + 1))
+    more-so =
+        ap₂ (λ (j k : ℕ). allocationsFrom m (j + 1) k) place-is (more-are ∙ count-is own m (r .at) (r .head) (r .lies) (r .stands) read read-so)
+        ∙ allocations-are own m 15 (r .at + 1) (entryCount m - (r .at + 1))
+
+    series-so : _≡_ {A = Series} (record { head = h; more = allocationsFrom m (i - s .entries + 1) (s .entries - 1) }) (seriesAt (r .head) (rest own m (r .at + 1)))
+    series-so = λ j. record { head = head-so j; more = more-so j }
+
+    pub plan-next
+        : (q : List ℕ) (x : ℕ) → q ≡ sets p (4 * w .records) (seriesNumbers (record { head = h; more = allocationsFrom m (i - s .entries + 1) (s .entries - 1) }))
+        → x ≡ mark (h .ploamu) 1
+        → toCome own m q (record { at = i; records = w .records + (s .entries - 1 + 1); bursts = w .bursts + 1; messages = w .messages + x; end = s .start + s .words })
+        ≡ toCome own m p w
+    plan-next q x hq hx =
+        ap₂ (λ (j k : ℕ). toCome own m q (record { at = j; records = w .records + (k + 1); bursts = w .bursts + 1; messages = w .messages + x; end = s .start + s .words })) (r .here) more-are
+        ∙ plan-series own m (r .at) (r .head) (r .lies) (r .stands) read read-so p q w (s .start) (s .words) x starts (ap (λ (z : Open). z .words) (r .is)) (d .fit) (d .next)
+        (hq ∙ ap (λ (z : Series). sets p (4 * w .records) (seriesNumbers z)) series-so)
+        (hx ∙ ap (λ (a : Allocation). mark (a .ploamu) 1) head-so)

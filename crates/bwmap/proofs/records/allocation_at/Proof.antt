@@ -1,0 +1,78 @@
+-- `bwmap::records::allocation_at` meets its contract.
+-- Assumes nothing.
+use mathlib.Core.Path.{_∙_, sym, ap}
+use native.Mathlib.Omega.{arith}
+use denote.Ref.{now}
+use Rattle.framing.specs.Reads.{foundAllocation}
+use Rattle.framing.specs.declared.allocation.AllocationRead.{AllocationRead}
+use Rattle.bwmap.specs.Turns.{fieldsOf, allocationAt}
+use Rattle.bwmap.proofs.Reading.{read-entry}
+use borrow.Author.Needs.{needs}
+use Rattle.bwmap.proofs.records.allocation_at.Statement.{statement}
+use Rattle.bwmap.proofs.records.allocation_at.Tie as tie
+
+mul-at : tie.Need-mul-at
+mul-at c = search needs
+
+sub-read-allocation-by : tie.Need-sub-read-allocation-by
+sub-read-allocation-by c = search needs
+
+part-read-allocation-by-start : tie.Need-part-read-allocation-by-start
+part-read-allocation-by-start c = search needs
+
+part-read-allocation-by-end : tie.Need-part-read-allocation-by-end
+part-read-allocation-by-end c = search needs
+
+read-allocation-by-requires : tie.Need-read-allocation-by-requires
+read-allocation-by-requires c κs = search needs
+
+enum-known-a : tie.Need-enum-known-a
+enum-known-a c = search needs
+
+enum-told : tie.Need-enum-told
+enum-told c = search needs
+
+no-allocation-requires : tie.Need-no-allocation-requires
+no-allocation-requires c κs = search needs
+
+enum-told-2 : tie.Need-enum-told-2
+enum-told-2 c = search needs
+
+no-allocation-requires-2 : tie.Need-no-allocation-requires-2
+no-allocation-requires-2 c κs = search needs
+
+returns : tie.Need-returns
+unfolding allocationAt
+returns c =
+    let s = c .before .before .before .before .before .before in
+    sym (ap (λ (x : AllocationRead). fieldsOf (foundAllocation x)) (c .before .a .given .1)) ∙ ap fieldsOf (c .before .before .before .read-allocation-by .ensures ∙ read-entry (now (s .args .syndromes)) (now (s .args .flips)) (now (s .args .map)) (s .pre .0) (λ k. omega (arith, c .before .before .before .before .before .shared-slice-known .given k)) (s .args .i))
+
+returns-2 : tie.Need-returns-2
+unfolding allocationAt
+returns-2 c =
+    let s = c .before .before .before .before .before .before in
+    c .no-allocation .ensures ∙ sym (ap (λ (x : AllocationRead). fieldsOf (foundAllocation x)) (c .before .enum-told .given .1)) ∙ ap fieldsOf (c .before .before .before .read-allocation-by .ensures ∙ read-entry (now (s .args .syndromes)) (now (s .args .flips)) (now (s .args .map)) (s .pre .0) (λ k. omega (arith, c .before .before .before .before .before .shared-slice-known .given k)) (s .args .i))
+
+returns-3 : tie.Need-returns-3
+unfolding allocationAt
+returns-3 c =
+    let s = c .before .before .before .before .before .before in
+    c .no-allocation2 .ensures ∙ sym (ap (λ (x : AllocationRead). fieldsOf (foundAllocation x)) (c .before .enum-told2 .given .1)) ∙ ap fieldsOf (c .before .before .before .read-allocation-by .ensures ∙ read-entry (now (s .args .syndromes)) (now (s .args .flips)) (now (s .args .map)) (s .pre .0) (λ k. omega (arith, c .before .before .before .before .before .shared-slice-known .given k)) (s .args .i))
+
+pub allocation-at-spec : {M : Type 1} → statement M
+allocation-at-spec =
+    tie.close
+    (tie.spec
+    mul-at
+    sub-read-allocation-by
+    part-read-allocation-by-start
+    part-read-allocation-by-end
+    read-allocation-by-requires
+    enum-known-a
+    enum-told
+    no-allocation-requires
+    enum-told-2
+    no-allocation-requires-2
+    returns
+    returns-2
+    returns-3)
