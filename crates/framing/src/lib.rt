@@ -6,3 +6,4 @@ mod octets;
 pub mod xgem;
 
 pub use octets::Written;
+pub use octets::word_ahead;

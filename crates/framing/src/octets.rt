@@ -1,6 +1,8 @@
 // Numbers as octets of a slice, the most significant first.
 ghost use mathlib.Core.Path.{_≡_};
+ghost use mathlib.Core.Bool.{cond};
 ghost use Prim.Native.Nat.{_%_, _^_, _<_, _≤_};
+ghost use lib.Dec.{leb};
 ghost use lib.ListN.{length, take};
 ghost use Rattle.framing.specs.Octets.{value, octets};
 ghost use Rattle.framing.specs.Layouts.{bit};
@@ -54,6 +56,15 @@ pub(crate) fn word64(s: &[u8]) -> u64
         + wide64(s[6]))
         * 0x100
         + wide64(s[7])
+}
+
+// The word at the start of a slice, 0 where the slice is too short: for walks, which read before they ask. The choice keeps
+// the word one number, which is loaded at once: its octets are taken apart for the syndrome, and without the choice each of
+// them was loaded by itself.
+pub fn word_ahead(s: &[u8]) -> u64
+    ensures { λ r. ⌜ r ≡ cond (leb 8 (length (now (s .entry)))) (value (take 8 (now (s .entry)))) 0 ⌝ }
+{
+    if s.len() < 8 { 0 } else { word64(s) }
 }
 
 fn put32(target: &mut [u8], word: u32)
