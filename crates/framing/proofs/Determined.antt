@@ -1,5 +1,6 @@
 -- No second outcome meets the contract of a public function: for each, any two that do are equal, what the target then
--- holds included. (The contracts of `of` and `payload_size` are an equation of the result itself.)
+-- holds included. (The contracts of `of`, `word_ahead` and `payload_size` are an
+-- equation of the result itself.)
 -- Assumes nothing.
 use mathlib.Core.Path.{_≡_, refl, sym, ap, _∙_}
 use mathlib.Core.List.{List}
