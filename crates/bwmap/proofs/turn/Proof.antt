@@ -88,7 +88,7 @@ returns-2 c =
     let a = c .before .before .before .before .before .args in
     let s = c .before .before .before .before .before .pre .3 in
     let n = rw (c .enum-told .given .1) at (c .before .before .next-planned .ensures) in
-    (record { few = s .few; room = s .room; sent = s .sent; low = s .low }, c .before .before .before .before .before .pre .1, omega arith, move-past (a .own) (now (a .map)) (now (a .plan)) (a .w) n)
+    (record { few = s .few; room = s .room; sent = s .sent; low = omega (arith, s .low) }, c .before .before .before .before .before .pre .1, omega arith, move-past (a .own) (now (a .map)) (now (a .plan)) (a .w) n)
 
 pub turn-spec : {M : Type 1} → statement M
 turn-spec =
