@@ -1,2 +1,3 @@
 pub mod Receiving
 pub mod Asking
+pub mod PassingOver

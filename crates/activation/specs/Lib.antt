@@ -1,3 +1,4 @@
 pub mod Receiving
 pub mod Replying
 pub mod Asking
+pub mod Inert

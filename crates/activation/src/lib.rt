@@ -1,6 +1,7 @@
 // The messages of a frame act one after another, each on the state left by the last.
 ghost use mathlib.Core.Bool.{Bool};
 ghost use mathlib.Core.Path.{_≡_};
+ghost use Prim.Native.Nat.{_-_, _/_};
 ghost use lib.ListN.{length};
 ghost use Rattle.aes.specs.MixTable.{mixTable};
 ghost use Rattle.cmac.specs.ByTable.{Ready};
@@ -8,8 +9,10 @@ ghost use Rattle.station.specs.Limits.{keyOctets};
 ghost use Rattle.effects.specs.Effects.{ignored};
 ghost use Rattle.effects.specs.Changes.{applied};
 ghost use Rattle.activation.specs.Asking.{askedOf};
-ghost use Rattle.activation.specs.Receiving.{genuineNow, receivedBy, receivedAllBy, AllReceived};
+ghost use Rattle.ploam.specs.Layout.{messageOctets};
+ghost use Rattle.activation.specs.Receiving.{messagesFrom, genuineNow, receivedBy, receivedEachBy, AllReceived};
 
+mod inert;
 pub mod replying;
 
 use cmac::Prepared;
@@ -89,18 +92,20 @@ fn asked_by(e: Effect) -> Asked
     }
 }
 
+// From the message `first` on.
 fn receive_each(
     t: &[u32; 1024],
     usual: Prepared,
     installed: Prepared,
     s: Station,
     messages: &[u8],
+    first: usize,
 ) -> Station
-    ensures { λ r. ⌜ r ≡ receivedAllBy (now (t .entry)) usual installed s (now (messages .entry)) ⌝ }
+    ensures { λ r. ⌜ r ≡ receivedEachBy (now (t .entry)) usual installed s (messagesFrom (now (messages .entry)) first (length (now (messages .entry)) / messageOctets - first)) ⌝ }
 {
     let n = messages.len() / MESSAGE_OCTETS;
     let mut next = s;
-    let mut i: usize = 0;
+    let mut i = first;
     while i < n {
         let at = MESSAGE_OCTETS * i;
         let end = at + MESSAGE_OCTETS;
@@ -114,7 +119,10 @@ fn receive_each(
                 next = effects::apply(next, e);
             }
         }
-        i += 1;
+        let link = next.link;
+        let onu = link.onu;
+        let owed = link.owed;
+        i = inert::past_inert(onu, inert::is_full(owed), messages, i + 1);
     }
     next
 }
@@ -125,24 +133,27 @@ fn prepared(t: &[u32; 1024], octets: [u8; 16]) -> Prepared
     cmac::prepare(t, octets)
 }
 
-// What follows the last whole message is not looked at. The table of AES is lent: whoever has named it for other messages
-// lends it on.
+// What follows the last whole message is not looked at. No key is prepared where no message may act. The table of AES is
+// lent: whoever has named it for other messages lends it on.
 pub fn receive_all_by(t: &[u32; 1024], s: Station, messages: &[u8]) -> Station
     requires { ⌜ now t ≡ mixTable ⌝ }
     ensures { λ r. ⌜ AllReceived s (now (messages .entry)) r ⌝ }
 {
-    if messages.len() < MESSAGE_OCTETS {
+    let link = s.link;
+    let onu = link.onu;
+    let owed = link.owed;
+    let first = inert::past_inert(onu, inert::is_full(owed), messages, 0);
+    if messages.len() / MESSAGE_OCTETS <= first {
         return s;
     }
     let usual = ploam::integrity::default_key();
-    let link = s.link;
     let key = link.key;
     let octets = key.octets;
     if key.held {
         let installed = prepared(t, octets);
-        return receive_each(t, usual, installed, s, messages);
+        return receive_each(t, usual, installed, s, messages, first);
     }
-    receive_each(t, usual, usual, s, messages)
+    receive_each(t, usual, usual, s, messages, first)
 }
 
 // The same by a table that is named here.

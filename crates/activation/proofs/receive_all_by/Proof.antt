@@ -12,14 +12,21 @@ use Rattle.cmac.specs.ByTable.{preparedBy}
 use Rattle.cmac.specs.declared.Prepared.{Prepared}
 use Rattle.activation.specs.Receiving.{receivedAllBy}
 use Rattle.activation.proofs.Receiving.{each-true, key-is, key-none}
+use Rattle.activation.proofs.PassingOver.{start-passed, none-acts}
 use borrow.Author.Needs.{needs}
 use Rattle.activation.proofs.receive_all_by.Statement.{statement}
 use Rattle.activation.proofs.receive_all_by.Tie as tie
 
+is-full-requires : tie.Need-is-full-requires
+is-full-requires c κs = search needs
+
+past-inert-requires : tie.Need-past-inert-requires
+past-inert-requires c κs = search needs
+
 returns : tie.Need-returns
 returns c =
-    let e : length (now ((c .before .before) .args .messages)) / 48 ≡ 0 = omega arith in
-    rw e
+    let a = c .before .before .before .before .before .before .before .args in
+    none-acts (now (a .messages)) (length (now (a .messages)) / 48) _ (a .s) _ (c .before .before .is-full .ensures) (c .before .past-inert .ensures) (c .if1 .taken)
 
 default-key-requires : tie.Need-default-key-requires
 default-key-requires c κs = search needs
@@ -32,15 +39,17 @@ receive-each-requires c κs = search needs
 
 returns-2 : tie.Need-returns-2
 returns-2 c =
-    let a = (c .before .before .before .before .before .before .before .before .before) .args in
+    let a = c .before .before .before .before .before .before .before .before .before .before .before .before .before .args in
     let b = now (a .messages) in
     let p = c .before .prepared .result in
-    let o : Octets b = λ i. omega (arith, c .before .before .before .before .before .before .before .before .shared-slice-known .given i) in
+    let u = c .before .before .before .before .before .default-key .result in
+    let o : Octets b = λ i. omega (arith, c .before .before .before .before .before .before .before .before .before .before .before .before .shared-slice-known .given i) in
     let ready = c .before .prepared .ensures .0 in
-    let made : p ≡ preparedBy mixTable (wordsOf (a .s .link .key .octets)) = ready .made ∙ ap (λ (t : List ℕ). preparedBy t (wordsOf (a .s .link .key .octets))) ((c .before .before .before .before .before .before .before .before .before) .pre) in
+    let made : p ≡ preparedBy mixTable (wordsOf (a .s .link .key .octets)) = ready .made ∙ ap (λ (t : List ℕ). preparedBy t (wordsOf (a .s .link .key .octets))) (c .before .before .before .before .before .before .before .before .before .before .before .before .before .pre) in
     c .receive-each .ensures
-    ∙ ap (λ (t : List ℕ). receivedAllBy t (c .before .before .before .before .before .before .default-key .result) p (a .s) b) ((c .before .before .before .before .before .before .before .before .before) .pre)
-    ∙ ap (λ (u : Prepared). receivedAllBy mixTable u p (a .s) b) (c .before .before .before .before .before .before .default-key .ensures)
+    ∙ start-passed b (length b / 48) _ (a .s) _ (c .before .before .before .before .before .before .before .before .is-full .ensures) (c .before .before .before .before .before .before .before .past-inert .ensures) (now (a .t)) u p
+    ∙ ap (λ (t : List ℕ). receivedAllBy t u p (a .s) b) (c .before .before .before .before .before .before .before .before .before .before .before .before .before .pre)
+    ∙ ap (λ (x : Prepared). receivedAllBy mixTable x p (a .s) b) (c .before .before .before .before .before .default-key .ensures)
     ∙ each-true p b o (length b / 48) 0 (a .s) (key-is p (a .s .link .key) made (ready .octets) (c .before .prepared .ensures .1))
 
 receive-each-requires-2 : tie.Need-receive-each-requires-2
@@ -48,19 +57,22 @@ receive-each-requires-2 c κs = search needs
 
 returns-3 : tie.Need-returns-3
 returns-3 c =
-    let a = (c .before .before .before .before .before .before .before .before) .args in
+    let a = c .before .before .before .before .before .before .before .before .before .before .before .before .args in
     let b = now (a .messages) in
-    let u = c .before .before .before .before .before .default-key .result in
-    let o : Octets b = λ i. omega (arith, c .before .before .before .before .before .before .before .shared-slice-known .given i) in
+    let u = c .before .before .before .before .default-key .result in
+    let o : Octets b = λ i. omega (arith, c .before .before .before .before .before .before .before .before .before .before .before .shared-slice-known .given i) in
     c .receive-each2 .ensures
-    ∙ ap (λ (t : List ℕ). receivedAllBy t u u (a .s) b) ((c .before .before .before .before .before .before .before .before) .pre)
-    ∙ ap (λ (x : Prepared). receivedAllBy mixTable x u (a .s) b) (c .before .before .before .before .before .default-key .ensures)
+    ∙ start-passed b (length b / 48) _ (a .s) _ (c .before .before .before .before .before .before .before .is-full .ensures) (c .before .before .before .before .before .before .past-inert .ensures) (now (a .t)) u u
+    ∙ ap (λ (t : List ℕ). receivedAllBy t u u (a .s) b) (c .before .before .before .before .before .before .before .before .before .before .before .before .pre)
+    ∙ ap (λ (x : Prepared). receivedAllBy mixTable x u (a .s) b) (c .before .before .before .before .default-key .ensures)
     ∙ each-true u b o (length b / 48) 0 (a .s) (key-none u (a .s .link .key) (c .before .if2 .left))
 
 pub receive-all-by-spec : {M : Type 1} → statement M
 receive-all-by-spec =
     tie.close
     (tie.spec
+    is-full-requires
+    past-inert-requires
     returns
     default-key-requires
     prepared-requires

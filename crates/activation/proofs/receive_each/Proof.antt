@@ -3,26 +3,26 @@
 use mathlib.Core.Path.{_≡_, _∙_, refl, sym, ap}
 use mathlib.Core.Logic.{⊎-elim}
 use native.Mathlib.Omega.{arith}
-use native.Mathlib.Nat.{sub-zero}
 use Prim.Native.Nat.{_<_, _^_, ℕ, _+_, _-_, _*_, _/_, _≤_}
 use denote.Ref.{now}
 use lib.ListN.{length, take, drop}
 use borrow.Author.Needs.{needs}
-use Rattle.activation.specs.Receiving.{messagesFrom, receivedBy, receivedEachBy, receivedAllBy}
+use Rattle.activation.specs.Receiving.{messagesFrom, receivedBy, receivedEachBy}
 use Rattle.effects.specs.Changes.{applied}
-use Rattle.activation.proofs.Receiving.{each-turn, each-end}
+use Rattle.activation.proofs.Receiving.{each-end}
+use Rattle.activation.proofs.PassingOver.{turn-on, turn-passed}
 use Rattle.activation.proofs.Asking.{stays, delays}
 use Rattle.activation.proofs.receive_each.Statement.{statement}
 use Rattle.activation.proofs.receive_each.Tie as tie
 
 abbrev Inv-loop : tie.InvT-loop
-Inv-loop t usual installed messages n next₀ i₀ next i = (n ≡ length messages / 48) × (i ≤ n) × (receivedEachBy t usual installed next (messagesFrom messages i (n - i)) ≡ receivedAllBy t usual installed next₀ messages) × (n < 2 ^ 64)
+Inv-loop t usual installed messages first n next₀ i₀ next i = (n ≡ length messages / 48) × (receivedEachBy t usual installed next (messagesFrom messages i (n - i)) ≡ receivedEachBy t usual installed next₀ (messagesFrom messages first (n - first))) × (n < 2 ^ 64)
 
 abbrev μ-loop : tie.MeasureT-loop
-μ-loop t usual installed messages n next₀ i₀ next i = n - i
+μ-loop t usual installed messages first n next₀ i₀ next i = n - i
 
 loop-holds : tie.Need-loop-holds Inv-loop μ-loop
-loop-holds c = (refl, omega arith, rw sub-zero, omega arith)
+loop-holds c = (refl, refl, omega arith)
 
 mul-at : tie.Need-mul-at Inv-loop μ-loop
 mul-at c = search needs
@@ -66,28 +66,39 @@ settled c =
     ⊎-elim (λ v. v .2 ∙ sym (stays s e (sym a ∙ v .1 .given .1)))
     (⊎-elim (λ v. v .4 ∙ sym (delays s e (v .1 .given .0 .0) (sym a ∙ v .1 .given .1))) (λ v. v .3 ∙ v .2 .ensures)) (c .match .came)
 
-add-i : tie.Need-add-i Inv-loop μ-loop
-add-i c =
-    let h = c .before .before .before .before .loop-test .taken in
-    let k = c .before .before .before .before .before .loop .inv .3 in
+is-full-requires : tie.Need-is-full-requires Inv-loop μ-loop
+is-full-requires c κs = search needs
+
+add-past-inert : tie.Need-add-past-inert Inv-loop μ-loop
+add-past-inert c =
+    let h = c .before .before .before .before .before .before .before .before .loop-test .taken in
+    let k = c .before .before .before .before .before .before .before .before .before .loop .inv .2 in
     record { fits = omega arith }
 
+past-inert-requires : tie.Need-past-inert-requires Inv-loop μ-loop
+past-inert-requires c κs = search needs
+
 loop-less : tie.Need-loop-less Inv-loop μ-loop
-loop-less c = search needs
+loop-less c =
+    let a = c .before .before .before .before .before .before .before .before .before .before .before .before .args in
+    let l = c .before .before .before .before .before .before .before .before .before .before .loop in
+    let h = turn-on (now (a .t)) (a .usual) (a .installed) (now (a .messages)) (length (now (a .messages)) / 48) (l .i) (c .past-inert .result) (c .before .before .before .before .before .match .next) (c .before .is-full .result) (c .past-inert .ensures) in
+    let k = c .before .before .before .before .before .before .before .before .before .loop-test .taken in
+    omega arith
 
 loop-again : tie.Need-loop-again Inv-loop μ-loop
 loop-again c =
-    let a = c .before .before .before .before .before .before .before .args in
-    let l = c .before .before .before .before .before .loop in
+    let a = c .before .before .before .before .before .before .before .before .before .before .before .before .args in
+    let l = c .before .before .before .before .before .before .before .before .before .before .loop in
     let e : 48 * l .i + 48 - 48 * l .i ≡ 48 = omega arith in
-    let r = settled c ∙ c .before .before .considered .ensures ∙ ap (λ (k : ℕ). receivedBy (now (a .t)) (a .usual) (a .installed) (l .next) (take k (drop (48 * l .i) (now (a .messages))))) e in
-    (l .inv .0, omega arith, each-turn (now (a .t)) (a .usual) (a .installed) (now (a .messages)) _ (l .i) (l .next) _ (c .before .before .before .before .loop-test .taken) r ∙ l .inv .2, l .inv .3)
+    let r = settled (c .before .before .before .before .before) ∙ c .before .before .before .before .before .before .before .considered .ensures ∙ ap (λ (k : ℕ). receivedBy (now (a .t)) (a .usual) (a .installed) (l .next) (take k (drop (48 * l .i) (now (a .messages))))) e in
+    (l .inv .0, turn-passed (now (a .t)) (a .usual) (a .installed) (now (a .messages)) _ (l .i) _ _ _ (c .past-inert .ensures) (l .next) (c .before .before .before .before .before .before .before .before .before .loop-test .taken) r (c .before .is-full .ensures) ∙ l .inv .1, l .inv .2)
 
 returns : tie.Need-returns Inv-loop μ-loop
 returns c =
     let a = c .before .before .before .args in
     let l = c .before .loop in
-    each-end (now (a .t)) (a .usual) (a .installed) (now (a .messages)) _ (l .i) (l .next) (c .loop-test .left) ∙ l .inv .2
+    each-end (now (a .t)) (a .usual) (a .installed) (now (a .messages)) _ (l .i) (l .next) (c .loop-test .left) ∙ l .inv .1
 
 pub receive-each-spec : {M : Type 1} → statement M
 receive-each-spec =
@@ -107,7 +118,9 @@ receive-each-spec =
     enum-known-delay
     enum-told-2
     apply-requires
-    add-i
+    is-full-requires
+    add-past-inert
+    past-inert-requires
     loop-less
     loop-again
     returns)
