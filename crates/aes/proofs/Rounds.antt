@@ -14,7 +14,7 @@ pub eleven : (t : List ℕ) (k0 k1 k2 k3 k4 k5 k6 k7 k8 k9 k10 : Words) → k1 �
     → k3 ≡ nextKeyBy t k2 4 → k4 ≡ nextKeyBy t k3 8 → k5 ≡ nextKeyBy t k4 16 → k6 ≡ nextKeyBy t k5 32
     → k7 ≡ nextKeyBy t k6 64 → k8 ≡ nextKeyBy t k7 128 → k9 ≡ nextKeyBy t k8 27 → k10 ≡ nextKeyBy t k9 54
     → _≡_ {A = RoundKeys}
-    (record { k0 = k0; k1 = k1; k2 = k2; k3 = k3; k4 = k4; k5 = k5; k6 = k6; k7 = k7; k8 = k8; k9 = k9; k10 = k10 })
+    (record { first = record { k0 = k0; k1 = k1; k2 = k2; k3 = k3; k4 = k4; k5 = k5 }; last = record { k6 = k6; k7 = k7; k8 = k8; k9 = k9; k10 = k10 } })
     (roundKeysBy t k0)
 unfolding roundKeysBy roundKeyBy rcon xtime
 eleven t k0 k1 k2 k3 k4 k5 k6 k7 k8 k9 k10 e1 p2 p3 p4 p5 p6 p7 p8 p9 p10 =

@@ -7,6 +7,7 @@ use lib.Bits.{bitXor}
 use Rattle.aes.specs.Field.{sBox, xtime}
 use Rattle.aes.specs.Cipher.{at, rcon}
 use Rattle.aes.specs.Words.{joined, octet2, added}
+use Rattle.aes.specs.declared.FirstKeys.{FirstKeys}
 use Rattle.aes.specs.declared.RoundKeys.{RoundKeys}
 use Rattle.aes.specs.declared.Words.{Words}
 
@@ -77,21 +78,27 @@ roundKeyBy t k (suc i) = nextKeyBy t (roundKeyBy t k i) (rcon i)
 unfoldable pub roundKeysBy : List ℕ → Words → RoundKeys
 roundKeysBy t k =
     record {
-      k0 = k;
-      k1 = roundKeyBy t k 1;
-      k2 = roundKeyBy t k 2;
-      k3 = roundKeyBy t k 3;
-      k4 = roundKeyBy t k 4;
-      k5 = roundKeyBy t k 5;
-      k6 = roundKeyBy t k 6;
-      k7 = roundKeyBy t k 7;
-      k8 = roundKeyBy t k 8;
-      k9 = roundKeyBy t k 9;
-      k10 = roundKeyBy t k 10;
+      first =
+          record {
+            k0 = k;
+            k1 = roundKeyBy t k 1;
+            k2 = roundKeyBy t k 2;
+            k3 = roundKeyBy t k 3;
+            k4 = roundKeyBy t k 4;
+            k5 = roundKeyBy t k 5;
+          };
+      last =
+          record {
+            k6 = roundKeyBy t k 6;
+            k7 = roundKeyBy t k 7;
+            k8 = roundKeyBy t k 8;
+            k9 = roundKeyBy t k 9;
+            k10 = roundKeyBy t k 10;
+          };
     }
 
 -- 5.1: the key, five rounds, four more, and the last
-unfoldable pub firstRoundsBy : List ℕ → RoundKeys → Words → Words
+unfoldable pub firstRoundsBy : List ℕ → FirstKeys → Words → Words
 firstRoundsBy t ks s =
     let s1 = roundBy t (added s (ks .k0)) (ks .k1) in
     let s2 = roundBy t s1 (ks .k2) in
@@ -101,8 +108,8 @@ firstRoundsBy t ks s =
 
 unfoldable pub cipherBy : List ℕ → RoundKeys → Words → Words
 cipherBy t ks s =
-    let s6 = roundBy t (firstRoundsBy t ks s) (ks .k6) in
-    let s7 = roundBy t s6 (ks .k7) in
-    let s8 = roundBy t s7 (ks .k8) in
-    let s9 = roundBy t s8 (ks .k9) in
-    lastBy t s9 (ks .k10)
+    let s6 = roundBy t (firstRoundsBy t (ks .first) s) (ks .last .k6) in
+    let s7 = roundBy t s6 (ks .last .k7) in
+    let s8 = roundBy t s7 (ks .last .k8) in
+    let s9 = roundBy t s8 (ks .last .k9) in
+    lastBy t s9 (ks .last .k10)

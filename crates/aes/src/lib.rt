@@ -19,19 +19,28 @@ pub struct Words {
     pub d: u32,
 }
 
-// The round keys of a key, the key itself first. A struct and no array: an array that is indexed is copied first.
-pub struct RoundKeys {
+// The round keys of a key, the key itself first. Structs and no array: an array that is indexed is copied first. Two of them:
+// they are copied where a message is enciphered, and what has at most 128 octets is copied in place, without a call.
+pub struct FirstKeys {
     pub k0: Words,
     pub k1: Words,
     pub k2: Words,
     pub k3: Words,
     pub k4: Words,
     pub k5: Words,
+}
+
+pub struct LastKeys {
     pub k6: Words,
     pub k7: Words,
     pub k8: Words,
     pub k9: Words,
     pub k10: Words,
+}
+
+pub struct RoundKeys {
+    pub first: FirstKeys,
+    pub last: LastKeys,
 }
 
 fn look(t: &[u32; 1024], row: u32, x: u32) -> u32
@@ -180,21 +189,25 @@ pub fn expand(t: &[u32; 1024], key: Words) -> RoundKeys
     let k9 = next_key(t, k8, 27);
     let k10 = next_key(t, k9, 54);
     RoundKeys {
-        k0: key,
-        k1: k1,
-        k2: k2,
-        k3: k3,
-        k4: k4,
-        k5: k5,
-        k6: k6,
-        k7: k7,
-        k8: k8,
-        k9: k9,
-        k10: k10,
+        first: FirstKeys {
+            k0: key,
+            k1: k1,
+            k2: k2,
+            k3: k3,
+            k4: k4,
+            k5: k5,
+        },
+        last: LastKeys {
+            k6: k6,
+            k7: k7,
+            k8: k8,
+            k9: k9,
+            k10: k10,
+        },
     }
 }
 
-fn first_rounds(t: &[u32; 1024], ks: RoundKeys, input: Words) -> Words
+fn first_rounds(t: &[u32; 1024], ks: FirstKeys, input: Words) -> Words
     ensures { λ r. ⌜ r ≡ firstRoundsBy (now (t .entry)) ks input ⌝ }
 {
     let s1 = round(t, add(input, ks.k0), ks.k1);
@@ -204,15 +217,15 @@ fn first_rounds(t: &[u32; 1024], ks: RoundKeys, input: Words) -> Words
     round(t, s4, ks.k5)
 }
 
-pub fn encipher(t: &[u32; 1024], ks: RoundKeys, input: Words) -> Words
-    ensures { λ r. ⌜ r ≡ cipherBy (now (t .entry)) ks input ⌝ }
+pub fn encipher(t: &[u32; 1024], first: FirstKeys, last: LastKeys, input: Words) -> Words
+    ensures { λ r. ⌜ r ≡ cipherBy (now (t .entry)) (record { first = first; last = last }) input ⌝ }
 {
-    let s5 = first_rounds(t, ks, input);
-    let s6 = round(t, s5, ks.k6);
-    let s7 = round(t, s6, ks.k7);
-    let s8 = round(t, s7, ks.k8);
-    let s9 = round(t, s8, ks.k9);
-    last_round(t, s9, ks.k10)
+    let s5 = first_rounds(t, first, input);
+    let s6 = round(t, s5, last.k6);
+    let s7 = round(t, s6, last.k7);
+    let s8 = round(t, s7, last.k8);
+    let s9 = round(t, s8, last.k9);
+    last_round(t, s9, last.k10)
 }
 
 pub fn encrypt(key: [u8; 16], input: [u8; 16]) -> [u8; 16]
@@ -220,5 +233,5 @@ pub fn encrypt(key: [u8; 16], input: [u8; 16]) -> [u8; 16]
 {
     let t = MIX;
     let ks = expand(&t, load(key));
-    store(encipher(&t, ks, load(input)))
+    store(encipher(&t, ks.first, ks.last, load(input)))
 }

@@ -55,7 +55,7 @@ pub fn prepare(t: &[u32; 1024], key: [u8; 16]) -> Prepared
         c: 0,
         d: 0,
     };
-    let whole = doubled(aes::encipher(t, all, zero));
+    let whole = doubled(aes::encipher(t, all.first, all.last, zero));
     let padded = doubled(whole);
     Prepared {
         keys: all,
@@ -155,6 +155,8 @@ fn tag(t: &[u32; 1024], key: Prepared, m: &[u8]) -> Words
     ensures { λ r. ⌜ r ≡ tagBy (now (t .entry)) key (now (m .entry)) ⌝ }
 {
     let ks = key.keys;
+    let first = ks.first;
+    let last = ks.last;
     let n = blocks_before(m.len());
     let mut x = Words {
         a: 0,
@@ -164,11 +166,11 @@ fn tag(t: &[u32; 1024], key: Prepared, m: &[u8]) -> Words
     };
     let mut i: usize = 0;
     while i < n {
-        let next = aes::encipher(t, ks, add_whole(x, m, i * 16));
+        let next = aes::encipher(t, first, last, add_whole(x, m, i * 16));
         x = next;
         i += 1;
     }
-    aes::encipher(t, ks, add_last(key, x, m, n * 16))
+    aes::encipher(t, first, last, add_last(key, x, m, n * 16))
 }
 
 pub fn mac(t: &[u32; 1024], key: Prepared, m: &[u8]) -> [u8; 16]

@@ -15,6 +15,8 @@ use super::MESSAGE_OCTETS;
 use super::REGISTRATION;
 use super::REQUEST_REGISTRATION;
 use super::SERIAL_NUMBER_ONU;
+use aes::FirstKeys;
+use aes::LastKeys;
 use aes::RoundKeys;
 use aes::Words;
 use cmac::Prepared;
@@ -125,71 +127,75 @@ pub fn default_key() -> Prepared
 {
     Prepared {
         keys: RoundKeys {
-            k0: Words {
-                a: 0x55555555,
-                b: 0x55555555,
-                c: 0x55555555,
-                d: 0x55555555,
+            first: FirstKeys {
+                k0: Words {
+                    a: 0x55555555,
+                    b: 0x55555555,
+                    c: 0x55555555,
+                    d: 0x55555555,
+                },
+                k1: Words {
+                    a: 0xa8a9a9a9,
+                    b: 0xfdfcfcfc,
+                    c: 0xa8a9a9a9,
+                    d: 0xfdfcfcfc,
+                },
+                k2: Words {
+                    a: 0x1a1919fd,
+                    b: 0xe7e5e501,
+                    c: 0x4f4c4ca8,
+                    d: 0xb2b0b054,
+                },
+                k3: Words {
+                    a: 0xf9fe39ca,
+                    b: 0x1e1bdccb,
+                    c: 0x51579063,
+                    d: 0xe3e72037,
+                },
+                k4: Words {
+                    a: 0x6549a3db,
+                    b: 0x7b527f10,
+                    c: 0x2a05ef73,
+                    d: 0xc9e2cf44,
+                },
+                k5: Words {
+                    a: 0xedc3b806,
+                    b: 0x9691c716,
+                    c: 0xbc942865,
+                    d: 0x7576e721,
+                },
             },
-            k1: Words {
-                a: 0xa8a9a9a9,
-                b: 0xfdfcfcfc,
-                c: 0xa8a9a9a9,
-                d: 0xfdfcfcfc,
-            },
-            k2: Words {
-                a: 0x1a1919fd,
-                b: 0xe7e5e501,
-                c: 0x4f4c4ca8,
-                d: 0xb2b0b054,
-            },
-            k3: Words {
-                a: 0xf9fe39ca,
-                b: 0x1e1bdccb,
-                c: 0x51579063,
-                d: 0xe3e72037,
-            },
-            k4: Words {
-                a: 0x6549a3db,
-                b: 0x7b527f10,
-                c: 0x2a05ef73,
-                d: 0xc9e2cf44,
-            },
-            k5: Words {
-                a: 0xedc3b806,
-                b: 0x9691c716,
-                c: 0xbc942865,
-                d: 0x7576e721,
-            },
-            k6: Words {
-                a: 0xf557459b,
-                b: 0x63c6828d,
-                c: 0xdf52aae8,
-                d: 0xaa244dc9,
-            },
-            k7: Words {
-                a: 0x83b49837,
-                b: 0xe0721aba,
-                c: 0x3f20b052,
-                d: 0x9504fd9b,
-            },
-            k8: Words {
-                a: 0xf1e08c1d,
-                b: 0x119296a7,
-                c: 0x2eb226f5,
-                d: 0xbbb6db6e,
-            },
-            k9: Words {
-                a: 0xa45913f7,
-                b: 0xb5cb8550,
-                c: 0x9b79a3a5,
-                d: 0x20cf78cb,
-            },
-            k10: Words {
-                a: 0x18e50c40,
-                b: 0xad2e8910,
-                c: 0x36572ab5,
-                d: 0x1698527e,
+            last: LastKeys {
+                k6: Words {
+                    a: 0xf557459b,
+                    b: 0x63c6828d,
+                    c: 0xdf52aae8,
+                    d: 0xaa244dc9,
+                },
+                k7: Words {
+                    a: 0x83b49837,
+                    b: 0xe0721aba,
+                    c: 0x3f20b052,
+                    d: 0x9504fd9b,
+                },
+                k8: Words {
+                    a: 0xf1e08c1d,
+                    b: 0x119296a7,
+                    c: 0x2eb226f5,
+                    d: 0xbbb6db6e,
+                },
+                k9: Words {
+                    a: 0xa45913f7,
+                    b: 0xb5cb8550,
+                    c: 0x9b79a3a5,
+                    d: 0x20cf78cb,
+                },
+                k10: Words {
+                    a: 0x18e50c40,
+                    b: 0xad2e8910,
+                    c: 0x36572ab5,
+                    d: 0x1698527e,
+                },
             },
         },
         whole: Words {

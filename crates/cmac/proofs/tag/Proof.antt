@@ -15,10 +15,10 @@ use Rattle.cmac.proofs.tag.Statement.{statement}
 use Rattle.cmac.proofs.tag.Tie as tie
 
 abbrev Inv-loop : tie.InvT-loop
-Inv-loop t key m ks n x₀ i₀ x i = (i ≤ n) × (x ≡ chainedBy t ks m i)
+Inv-loop t key m first last n x₀ i₀ x i = (i ≤ n) × (x ≡ chainedBy t (key .keys) m i)
 
 abbrev μ-loop : tie.MeasureT-loop
-μ-loop t key m ks n x₀ i₀ x i = n - i
+μ-loop t key m first last n x₀ i₀ x i = n - i
 
 blocks-before-requires : tie.Need-blocks-before-requires Inv-loop μ-loop
 blocks-before-requires c κs = search needs
@@ -28,10 +28,10 @@ unfolding chainedBy
 loop-holds c = (omega arith, refl)
 
 mul-add-whole : tie.Need-mul-add-whole Inv-loop μ-loop
-mul-add-whole c = omega (arith, c .before .before .before .before .before .good .1 .1 .0)
+mul-add-whole c = omega (arith, c .before .before .before .before .before .before .before .good .1 .1 .0)
 
 add-whole-requires : tie.Need-add-whole-requires Inv-loop μ-loop
-add-whole-requires c κs = omega (arith, c .before .before .before .before .before .good .1 .1 .0, c .before .before .blocks-before .ensures, c .loop-test .taken)
+add-whole-requires c κs = omega (arith, c .before .before .before .before .before .before .before .good .1 .1 .0, c .before .before .blocks-before .ensures, c .loop-test .taken)
 
 encipher-requires : tie.Need-encipher-requires Inv-loop μ-loop
 encipher-requires c κs = search needs
@@ -45,7 +45,7 @@ loop-less c = search needs
 loop-again : tie.Need-loop-again Inv-loop μ-loop
 loop-again c =
     let at = c .before .before .before in
-    let args = at .before .before .before .before .args in
+    let args = at .before .before .before .before .before .before .args in
     let ks = args .key .keys in
     let b = wordsOf (blockAt (now (args .m)) (at .loop .i * 16)) in (
       omega arith,
@@ -55,10 +55,10 @@ loop-again c =
     )
 
 mul-add-last : tie.Need-mul-add-last Inv-loop μ-loop
-mul-add-last c = omega (arith, c .before .before .before .before .before .good .1 .1 .0)
+mul-add-last c = omega (arith, c .before .before .before .before .before .before .before .good .1 .1 .0)
 
 add-last-requires : tie.Need-add-last-requires Inv-loop μ-loop
-add-last-requires c κs = omega (arith, c .before .before .before .before .before .good .1 .1 .0)
+add-last-requires c κs = omega (arith, c .before .before .before .before .before .before .before .good .1 .1 .0)
 
 encipher-requires-2 : tie.Need-encipher-requires-2 Inv-loop μ-loop
 encipher-requires-2 c κs = search needs
@@ -67,7 +67,7 @@ returns : tie.Need-returns Inv-loop μ-loop
 unfolding tagBy before
 returns c =
     let at = c .before .before .before in
-    let args = at .before .before .before .before .args in
+    let args = at .before .before .before .before .before .before .args in
     let ks = args .key .keys in
     let e : at .loop .i ≡ at .before .blocks-before .result = omega arith in
     let b = at .before .blocks-before .ensures in
