@@ -7,10 +7,10 @@ use mathlib.Core.Bool.{Bool, cond}
 use lib.Dec.{eqb}
 use Rattle.ids.specs.declared.OnuId.{OnuId}
 use Rattle.ploam.specs.Reading.{serialAt}
-use Rattle.ploam.specs.declared.Completion as carried
-use Rattle.ploam.specs.declared.Completion.the-variants as code
-use Rattle.ploam.specs.declared.UpstreamMessage.{UpstreamMessage}
-use Rattle.ploam.specs.declared.UpstreamMessage.the-variants as says
+use Rattle.upstream.specs.declared.Completion as carried
+use Rattle.upstream.specs.declared.Completion.the-variants as code
+use Rattle.upstream.specs.declared.UpstreamMessage.{UpstreamMessage}
+use Rattle.upstream.specs.declared.UpstreamMessage.the-variants as says
 use Rattle.station.specs.declared.Activation.{Activation}
 use Rattle.station.specs.declared.Activation.the-variants.{Initial, SerialNumber, Ranging, Operation, Intermittent, EmergencyStop}
 use Rattle.station.specs.declared.Station.{Station}

@@ -4,12 +4,12 @@ ghost use Prim.Native.Nat.{_+_, _*_};
 ghost use Rattle.ploam.specs.Reading.{serialAt};
 ghost use Rattle.activation.specs.Replying.{sent, answering, inOperation, replyOf, afterReply, Replies, Leaves};
 use ids::OnuId;
-use ploam::UpstreamMessage;
 use station::Activation;
 use station::Station;
 use station::held::Owed;
 use station::held::Queue;
 use station::held::Response;
+use upstream::UpstreamMessage;
 
 // O1, O6 and O7 send nothing.
 pub enum Reply {
@@ -18,15 +18,15 @@ pub enum Reply {
 }
 
 // The completion code that the message carries.
-fn sent(code: station::held::Completion) -> ploam::Completion
+fn sent(code: station::held::Completion) -> upstream::Completion
     ensures { λ r. ⌜ r ≡ sent code ⌝ }
 {
     match code {
-        station::held::Completion::Ok => ploam::Completion::Ok,
-        station::held::Completion::NoMessage => ploam::Completion::NoMessage,
-        station::held::Completion::UnknownMessageType => ploam::Completion::UnknownType,
-        station::held::Completion::ParameterError => ploam::Completion::ParameterError,
-        station::held::Completion::ProcessingError => ploam::Completion::ProcessingError,
+        station::held::Completion::Ok => upstream::Completion::Ok,
+        station::held::Completion::NoMessage => upstream::Completion::NoMessage,
+        station::held::Completion::UnknownMessageType => upstream::Completion::UnknownType,
+        station::held::Completion::ParameterError => upstream::Completion::ParameterError,
+        station::held::Completion::ProcessingError => upstream::Completion::ProcessingError,
     }
 }
 
@@ -48,7 +48,7 @@ fn in_operation(onu: OnuId, owed: Queue) -> UpstreamMessage
     ensures { λ r. ⌜ r ≡ inOperation onu owed ⌝ }
 {
     if owed.count == 0 {
-        return UpstreamMessage::Acknowledgement(onu, 0, ploam::Completion::NoMessage);
+        return UpstreamMessage::Acknowledgement(onu, 0, upstream::Completion::NoMessage);
     }
     answering(onu, owed.oldest())
 }

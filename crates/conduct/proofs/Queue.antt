@@ -11,7 +11,7 @@ use lib.Seq.{take-suc-set, take-append-le}
 use lib.Dec.{eqb, eqb·suc-zero}
 use borrow.Author.Tests.{lt-leb, le-leb}
 use Rattle.ids.specs.declared.OnuId.{OnuId}
-use Rattle.ploam.specs.declared.UpstreamMessage.{UpstreamMessage}
+use Rattle.upstream.specs.declared.UpstreamMessage.{UpstreamMessage}
 use Rattle.station.specs.declared.held.Owed.{Owed}
 use Rattle.station.specs.declared.held.Queue.{Queue}
 use Rattle.station.specs.Limits.{mostOwed}

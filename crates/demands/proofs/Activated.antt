@@ -10,8 +10,6 @@ use lib.Dec.{lit<, ltb}
 use lib.ListN.{length, take, drop, replicate, length-append}
 use lib.Seq.{take-at, drop-at, take-all}
 use borrow.Author.Tests.{le-leb}
-use Rattle.aes.specs.Cipher.{lastOf, aes128}
-use Rattle.cmac.specs.Mac.{cmac}
 use Rattle.hec.specs.Reads.{word}
 use Rattle.hec.proofs.Compute.{computed32}
 use Rattle.hec.proofs.SyndromeRule.{syndromes}
@@ -20,12 +18,12 @@ use Rattle.framing.specs.declared.hlend.Hlend.{Hlend}
 use Rattle.framing.specs.Layouts.{hlendOf}
 use Rattle.framing.specs.Reads.{fields, taken, readHlend}
 use Rattle.ploam.specs.Layout.{messageOctets, coveredOctets, addressOf, typeOf}
-use Rattle.ploam.specs.Integrity.{micOf, micRight, defaultKey, byDefault, installedKey, genuine}
+use Rattle.ploam.specs.Integrity.{covered, micOf, micRight, defaultKey, byDefault, installedKey, genuine}
 use Rattle.ploam.specs.Reading.{contentAs, messageOf, received}
 use Rattle.ploam.specs.declared.Direction.the-variants.{Downstream}
 use Rattle.ploam.specs.declared.Received.{Received}
 use Rattle.ploam.specs.declared.Received.the-variants.{Whole, Short}
-use Rattle.ploam.proofs.RoundTrip.{signed-right}
+use Rattle.ploam.proofs.Signed.{mic-length, signed-right}
 use Rattle.station.specs.declared.Station.{Station}
 use Rattle.station.specs.declared.Activation.{Activation}
 use Rattle.station.specs.declared.Activation.the-variants.{Operation}
@@ -55,13 +53,9 @@ use Rattle.demands.proofs.RefutingRuns.{serial, registration, memory, b
 signed : List ℕ → List ℕ
 signed octets = octets ++ micOf defaultKey Downstream octets
 
-mic-length : (octets : List ℕ) → length (micOf defaultKey Downstream octets) ≡ 8
-unfolding cmac aes128 lastOf
-mic-length octets = refl
-
 signed-length : (octets : List ℕ) → length octets ≡ coveredOctets → length (signed octets) ≡ messageOctets
 unfolding signed
-signed-length octets h = length-append octets (micOf defaultKey Downstream octets) ∙ ap₂ _+_ h (mic-length octets)
+signed-length octets h = length-append octets (micOf defaultKey Downstream octets) ∙ ap₂ _+_ h (mic-length defaultKey (covered Downstream octets))
 
 signed-genuine : (octets key : List ℕ) → length octets ≡ coveredOctets → genuine (installedKey false key) (signed octets) ≡ true
 unfolding genuine signed

@@ -10,7 +10,8 @@ use Rattle.ploam.specs.Integrity.{installedKey, genuine}
 use Rattle.ploam.specs.declared.Message.{Message}
 use Rattle.ploam.specs.declared.Received.{Received}
 use Rattle.ploam.specs.declared.Received.the-variants.{Whole, Short}
-use Rattle.ploam.proofs.RoundTrip.{round-trip, signed-right}
+use Rattle.ploam.proofs.Signed.{signed-right}
+use Rattle.upstream.proofs.RoundTrip.{round-trip}
 use Rattle.station.specs.declared.Station.{Station}
 use Rattle.effects.specs.Decisions.{isOurs, effectOf, fitting}
 use Rattle.effects.specs.Changes.{applied}

@@ -17,12 +17,12 @@ use Rattle.framing.specs.Reads.{fields, readHlend, readAllocation, readXgem}
 use Rattle.framing.specs.Writes.{carrying}
 use Rattle.ploam.specs.Layout.{messageOctets, coveredOctets, addressOf, typeOf, seqNoOf}
 use Rattle.ploam.specs.Integrity.{micOf, micRight, keyFor, installedKey, genuine}
-use Rattle.ploam.specs.Upstream.{upstreamAddress, upstreamType, upstreamSeqNo, upstreamContent, heard, asSent, Numbers}
-use Rattle.ploam.specs.Writing.{written}
 use Rattle.ploam.specs.declared.Direction.{Direction}
 use Rattle.ploam.specs.declared.Direction.the-variants.{Upstream}
-use Rattle.ploam.specs.declared.UpstreamMessage.{UpstreamMessage}
-use Rattle.ploam.specs.declared.Heard.the-variants.{Said}
+use Rattle.upstream.specs.Upstream.{upstreamAddress, upstreamType, upstreamSeqNo, upstreamContent, heard, asSent, Numbers}
+use Rattle.upstream.specs.Writing.{written}
+use Rattle.upstream.specs.declared.UpstreamMessage.{UpstreamMessage}
+use Rattle.upstream.specs.declared.Heard.the-variants.{Said}
 use Rattle.station.specs.declared.Station.{Station}
 use Rattle.activation.specs.Receiving.{receive}
 use Rattle.demands.specs.Engine.{Engine}

@@ -8,18 +8,16 @@ use mathlib.Core.List.{List, [], _∷_, _++_}
 use lib.Dec.{leb}
 use lib.ListN.{length, take, drop, length-take, length-drop, length-append}
 use lib.Seq.{drop-drop, drop-at}
-use Rattle.aes.specs.Cipher.{lastOf, aes128}
-use Rattle.cmac.specs.Mac.{cmac, cmac64}
 use Rattle.framing.specs.declared.hlend.Hlend.{Hlend}
 use Rattle.framing.specs.Reads.{Found, fields, unreadable, short, readHlend}
 use Rattle.ploam.specs.Layout.{messageOctets}
 use Rattle.ploam.specs.Integrity.{micOf, keyFor}
-use Rattle.ploam.specs.Upstream.{upstreamAddress, upstreamType, upstreamContent, upstreamOctets, fitting}
-use Rattle.ploam.specs.Writing.{Outcome, laid, written}
-use Rattle.ploam.specs.declared.Written.the-variants.{Done, Unfit}
 use Rattle.ploam.specs.declared.Direction.the-variants.{Upstream}
-use Rattle.ploam.specs.declared.UpstreamMessage.{UpstreamMessage}
-use Rattle.ploam.specs.declared.UpstreamMessage.the-variants.{SerialNumberOnu, Registration, Acknowledgement}
+use Rattle.ploam.proofs.Signed.{mic-length}
+use Rattle.upstream.specs.Upstream.{upstreamAddress, upstreamType, upstreamOctets, fitting}
+use Rattle.upstream.specs.Writing.{Outcome, laid, written}
+use Rattle.upstream.specs.declared.Written.the-variants.{Done, Unfit}
+use Rattle.upstream.proofs.RoundTrip.{octets-length}
 use Rattle.station.specs.declared.Activation.{Activation}
 use Rattle.station.specs.declared.Activation.the-variants.{Initial, SerialNumber, Ranging, Operation, Intermittent, EmergencyStop}
 use Rattle.station.specs.declared.Station.{Station}
@@ -38,19 +36,6 @@ use Rattle.engine.specs.Frame.{Left, ownOf, refused, unread, plannedIn, 
 use Rattle.engine.proofs.Laws.{Room, room, messages-few}
 
 -- ---- a message has 48 octets
-
-content-long : (message : UpstreamMessage) (id : List ℕ) → length id ≡ registrationOctets → length (upstreamContent message id) ≡ 36
-content-long (SerialNumberOnu serial delay) id h = refl
-content-long (Registration onu seq) id h = h
-content-long (Acknowledgement onu seq code) id h = refl
-
-octets-long : (message : UpstreamMessage) (id : List ℕ) → length id ≡ registrationOctets → length (upstreamOctets message id) ≡ 40
-unfolding upstreamOctets
-octets-long message id h = let l = content-long message id h in omega arith
-
-mic-long : (key m : List ℕ) → length (cmac64 key m) ≡ 8
-unfolding cmac aes128 lastOf
-mic-long key m = refl
 
 laid-long : (mic octets target : List ℕ) (fits : Bool) → length mic ≡ 8 → length octets ≡ 40 → length target ≡ messageOctets → length (laid mic fits octets target .target) ≡ messageOctets
 laid-long mic octets target fits m o t = go (fits && leb messageOctets (length target))
@@ -72,7 +57,7 @@ wrote-long s delay t r h = go (replyOf s delay)
     go Silent = h
     go (Says message) =
         laid-long (micOf (keyFor Upstream (upstreamAddress message) (upstreamType message) (keyOf (s .link .key))) Upstream (upstreamOctets message (s .registration)))
-        (upstreamOctets message (s .registration)) t (fitting message) (mic-long _ _) (octets-long message (s .registration) r) h
+        (upstreamOctets message (s .registration)) t (fitting message) (mic-length _ _) (octets-length message (s .registration) r) h
 
 -- ---- one reply in its place, and all of a frame
 

@@ -1,7 +1,6 @@
 pub mod Types
 pub mod Same
 pub mod Keys
-pub mod Laid
-pub mod RoundTrip
+pub mod Signed
 pub mod Determined
 pub mod WhichKey

@@ -1,5 +1,3 @@
 pub mod Layout
 pub mod Reading
 pub mod Integrity
-pub mod Upstream
-pub mod Writing

@@ -45,12 +45,19 @@ fn with_code(code: u8, m: &[u8]) -> [u8; 41]
     b
 }
 
-pub(crate) fn mic(t: &[u32; 1024], key: Prepared, direction: Direction, m: &[u8]) -> [u8; 8]
+fn mic(t: &[u32; 1024], key: Prepared, direction: Direction, m: &[u8]) -> [u8; 8]
     requires { ⌜ coveredOctets ≤ length (now m) ⌝ }
     ensures { λ r. ⌜ r ≡ mac64By (now (t .entry)) key (covered direction (now (m .entry))) ⌝ }
 {
     let b = with_code(direction_code(direction), m);
     cmac::mac64(t, key, &b)
+}
+
+// The integrity field for octets 1 to 40 of a message that is to be sent.
+pub fn sign(t: &[u32; 1024], key: Prepared, direction: Direction, octets: &[u8; 40]) -> [u8; 8]
+    ensures { λ r. ⌜ r ≡ mac64By (now (t .entry)) key (covered direction (now (octets .entry))) ⌝ }
+{
+    mic(t, key, direction, octets)
 }
 
 fn has_mic(m: &[u8], mic: [u8; 8]) -> bool

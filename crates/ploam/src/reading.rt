@@ -16,13 +16,13 @@ use super::Switch;
 use ids::AllocId;
 use ids::OnuId;
 
-fn join16(a: u8, b: u8) -> u16
+pub fn join16(a: u8, b: u8) -> u16
     ensures { λ r. ⌜ r ≡ a * 256 + b ⌝ }
 {
     a as u16 * 256 + b as u16
 }
 
-fn join32(a: u16, b: u16) -> u32
+pub fn join32(a: u16, b: u16) -> u32
     ensures { λ r. ⌜ r ≡ a * 65536 + b ⌝ }
 {
     a as u32 * 65536 + b as u32
@@ -35,14 +35,14 @@ fn number16(m: &[u8], i: usize) -> u16
     join16(m[i], m[i + 1])
 }
 
-pub(crate) fn number32(m: &[u8], i: usize) -> u32
+fn number32(m: &[u8], i: usize) -> u32
     requires { ⌜ i + 4 ≤ length (now m) ⌝ }
     ensures { λ r. ⌜ r ≡ at32 (now (m .entry)) i ⌝ }
 {
     join32(number16(m, i), number16(m, i + 2))
 }
 
-pub(crate) fn serial_number(m: &[u8], i: usize) -> SerialNumber
+fn serial_number(m: &[u8], i: usize) -> SerialNumber
     requires { ⌜ i + 8 ≤ length (now m) ⌝ }
     ensures { λ r. ⌜ r ≡ serialAt (now (m .entry)) i ⌝ }
 {

@@ -11,12 +11,12 @@ use Rattle.aes.specs.Words.{wordsOf, Octets}
 use Rattle.aes.specs.MixTable.{mixTable}
 use Rattle.cmac.specs.ByTable.{preparedBy}
 use Rattle.cmac.specs.declared.Prepared.{Prepared}
-use Rattle.ploam.specs.declared.UpstreamMessage.{UpstreamMessage}
 use Rattle.ploam.specs.Integrity.{defaultKey, installedKey}
-use Rattle.ploam.specs.Upstream.{upstreamOctets}
-use Rattle.ploam.specs.Writing.{Outcome, Leaves, written, writtenBy}
 use Rattle.ploam.proofs.Keys.{default-octets}
-use Rattle.ploam.proofs.RoundTrip.{written-by-mix-table}
+use Rattle.upstream.specs.declared.UpstreamMessage.{UpstreamMessage}
+use Rattle.upstream.specs.Upstream.{upstreamOctets}
+use Rattle.upstream.specs.Writing.{Outcome, Leaves, written, writtenBy}
+use Rattle.upstream.proofs.RoundTrip.{written-by-mix-table}
 use Rattle.station.specs.declared.Activation.{Activation}
 use Rattle.station.specs.declared.Activation.the-variants.{Initial, SerialNumber, Ranging, Operation, Intermittent, EmergencyStop}
 use Rattle.station.specs.declared.Station.{Station}

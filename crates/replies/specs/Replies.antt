@@ -10,7 +10,7 @@ use Rattle.cmac.specs.ByTable.{preparedBy}
 use Rattle.cmac.specs.declared.Prepared.{Prepared}
 use Rattle.ploam.specs.Layout.{messageOctets}
 use Rattle.ploam.specs.Integrity.{defaultKey, installedKey}
-use Rattle.ploam.specs.Writing.{written}
+use Rattle.upstream.specs.Writing.{written}
 use Rattle.station.specs.declared.Station.{Station}
 use Rattle.station.specs.declared.held.Key.{Key}
 use Rattle.activation.specs.Replying.{replyOf, afterReply}

@@ -30,7 +30,7 @@ fn write_reply(
     match activation::replying::reply_of(s, delay) {
         Reply::Silent => {}
         Reply::Says(message) => {
-            ploam::writing::write(t, usual, installed, message, id, target);
+            upstream::writing::write(t, usual, installed, message, id, target);
         }
     }
 }

@@ -4,14 +4,14 @@ use cmac::Prepared;
 use ids::OnuId;
 use libc::STDOUT_FILENO;
 use ploam::AllocChange;
-use ploam::Completion;
 use ploam::Content;
 use ploam::Direction;
 use ploam::Message;
 use ploam::Received;
 use ploam::SerialNumber;
-use ploam::UpstreamMessage;
-use ploam::Written;
+use upstream::Completion;
+use upstream::UpstreamMessage;
+use upstream::Written;
 
 fn text(s: &[u8]) {
     io::write_all(STDOUT_FILENO, s);
@@ -277,7 +277,7 @@ fn written(
 ) {
     let id = *b"0123456789abcdefghijklmnopqrstuvwxyz";
     let mut target = [0u8; 48];
-    match ploam::writing::write(t, usual, installed, message, id, &mut target) {
+    match upstream::writing::write(t, usual, installed, message, id, &mut target) {
         Written::Done => line(name, &target),
         Written::Unfit => text(b"unfit\n"),
     }

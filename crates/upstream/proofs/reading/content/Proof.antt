@@ -1,0 +1,90 @@
+-- `upstream::reading::content` meets its contract.
+-- Assumes nothing.
+use mathlib.Core.Path.{_∙_, sym, ap, ap₂}
+use Prim.Native.Nat.{ℕ}
+use borrow.Author.Tests.{ne-eqb}
+use denote.Ref.{now}
+use Rattle.ids.specs.declared.OnuId.{OnuId}
+use Rattle.ploam.specs.Layout.{octet, seqNoOf}
+use Rattle.ploam.specs.declared.SerialNumber.{SerialNumber}
+use Rattle.upstream.specs.Upstream.{acknowledged, heardAs}
+use Rattle.upstream.specs.declared.UpstreamMessage.the-variants.{SerialNumberOnu, Registration}
+use Rattle.upstream.specs.declared.Heard.the-variants.{Said}
+use borrow.Author.Needs.{needs}
+use Rattle.upstream.proofs.reading.content.Statement.{statement}
+use Rattle.upstream.proofs.reading.content.Tie as tie
+
+shared-slice-read-kind : tie.Need-shared-slice-read-kind
+shared-slice-read-kind c = search needs
+
+serial-number-requires : tie.Need-serial-number-requires
+serial-number-requires c κs = search needs
+
+number32-requires : tie.Need-number32-requires
+number32-requires c κs = search needs
+
+address-requires : tie.Need-address-requires
+address-requires c κs = search needs
+
+shared-slice-read-t11 : tie.Need-shared-slice-read-t11
+shared-slice-read-t11 c = search needs
+
+address-requires-2 : tie.Need-address-requires-2
+address-requires-2 c κs = search needs
+
+shared-slice-read-acknowledged : tie.Need-shared-slice-read-acknowledged
+shared-slice-read-acknowledged c = search needs
+
+shared-slice-read-acknowledged-2 : tie.Need-shared-slice-read-acknowledged-2
+shared-slice-read-acknowledged-2 c = search needs
+
+acknowledged-requires : tie.Need-acknowledged-requires
+acknowledged-requires c κs = search needs
+
+returns : tie.Need-returns
+unfolding heardAs
+returns c =
+    let at = c .before .before in
+    ap₂ (λ (s : SerialNumber) (d : ℕ). Said (SerialNumberOnu s d)) (c .before .serial-number .ensures) (c .number32 .ensures)
+    ∙ sym (ap (λ (k : ℕ). heardAs k (now (at .before .before .before .args .m))) (at .match .keys1))
+
+returns-2 : tie.Need-returns-2
+unfolding heardAs
+returns-2 c =
+    let at = c .before .before in
+    let m = now (at .before .before .before .args .m) in
+    ap (λ (o : OnuId). Said (Registration o (seqNoOf m))) (c .before .address .ensures)
+    ∙ sym (ap (λ (k : ℕ). heardAs k m) (at .match .keys2))
+
+returns-3 : tie.Need-returns-3
+unfolding heardAs
+returns-3 c =
+    let at = c .before .before .before .before in
+    let m = now (at .before .before .before .args .m) in
+    c .acknowledged .ensures
+    ∙ ap (λ (o : OnuId). acknowledged o (seqNoOf m) (octet m 5)) (c .before .before .before .address2 .ensures)
+    ∙ sym (ap (λ (k : ℕ). heardAs k m) (at .match .keys3))
+
+returns-4 : tie.Need-returns-4
+unfolding heardAs
+returns-4 c =
+    let rest = c .match .rest in
+    simp (ne-eqb _ _ (rest .0 .0 .1), ne-eqb _ _ (rest .0 .1), ne-eqb _ _ (rest .1))
+
+pub content-spec : {M : Type 1} → statement M
+content-spec =
+    tie.close
+    (tie.spec
+    shared-slice-read-kind
+    serial-number-requires
+    number32-requires
+    address-requires
+    shared-slice-read-t11
+    address-requires-2
+    shared-slice-read-acknowledged
+    shared-slice-read-acknowledged-2
+    acknowledged-requires
+    returns
+    returns-2
+    returns-3
+    returns-4)

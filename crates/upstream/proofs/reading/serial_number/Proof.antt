@@ -1,0 +1,21 @@
+-- `upstream::reading::serial_number` meets its contract.
+-- Assumes nothing.
+use borrow.Author.Needs.{needs}
+use Rattle.upstream.proofs.reading.serial_number.Statement.{statement}
+use Rattle.upstream.proofs.reading.serial_number.Tie as tie
+
+number32-requires : tie.Need-number32-requires
+number32-requires c κs = search needs
+
+add-number32 : tie.Need-add-number32
+add-number32 c = search needs
+
+number32-requires-2 : tie.Need-number32-requires-2
+number32-requires-2 c κs = search needs
+
+returns : tie.Need-returns
+returns c = cc
+
+pub serial-number-spec : {M : Type 1} → statement M
+serial-number-spec =
+    tie.close (tie.spec number32-requires add-number32 number32-requires-2 returns)

@@ -1,0 +1,2 @@
+pub mod Upstream
+pub mod Writing

@@ -1,0 +1,255 @@
+// Writing an upstream message into a lent slice.
+ghost use mathlib.Core.Bool.{Bool};
+ghost use mathlib.Core.Path.{_≡_};
+ghost use mathlib.Core.List.{_∷_, _++_};
+ghost use Prim.Native.Nat.{_+_, _≤_};
+ghost use lib.ListN.{length, replicate};
+ghost use lib.Seq.{paste};
+ghost use Rattle.aes.specs.Words.{Octets};
+ghost use Rattle.ploam.specs.Layout.{coveredOctets, typeOf, serialNumberOnu, registration, acknowledgement};
+ghost use Rattle.upstream.specs.Upstream.{capped, completionCode, octets16, octets32};
+ghost use Rattle.upstream.specs.Upstream.{upstreamAddress, upstreamOctets};
+ghost use Rattle.upstream.specs.Writing.{laidBy, writtenBy, Leaves};
+use super::Completion;
+use super::UpstreamMessage;
+use super::Written;
+use cmac::Prepared;
+use ids::OnuId;
+use ploam::COVERED_OCTETS;
+use ploam::Direction;
+use ploam::MESSAGE_OCTETS;
+use ploam::REGISTRATION;
+use ploam::SERIAL_NUMBER_ONU;
+use ploam::SerialNumber;
+
+// The type of Table 11-3 that the choice of a key does not look at.
+const ACKNOWLEDGEMENT: u8 = 0x09;
+
+// 13.1.2: the longest random delay, 48 microseconds in bit times.
+const LONGEST_DELAY: u32 = 119439;
+
+// The ONU-ID field has ten bits, and Serial_Number_ONU is sent from the broadcast ONU-ID.
+const WIDEST_ONU: u16 = 1023;
+
+fn capped(delay: u32) -> u32
+    ensures { λ r. ⌜ r ≡ capped delay ⌝ }
+{
+    if LONGEST_DELAY < delay {
+        LONGEST_DELAY
+    } else {
+        delay
+    }
+}
+
+fn completion_code(code: Completion) -> u8
+    ensures { λ r. ⌜ r ≡ completionCode code ⌝ }
+{
+    match code {
+        Completion::Ok => 0,
+        Completion::NoMessage => 1,
+        Completion::Busy => 2,
+        Completion::UnknownType => 3,
+        Completion::ParameterError => 4,
+        Completion::ProcessingError => 5,
+    }
+}
+
+fn serial_octets(serial: SerialNumber, delay: u32) -> [u8; 40]
+    ensures { λ r. ⌜ r ≡ octets16 1023 ++ serialNumberOnu ∷ 0 ∷ (octets32 (serial .vendor) ++ octets32 (serial .vssn) ++ octets32 delay ++ replicate 24 0) ⌝ }
+{
+    [
+        (WIDEST_ONU / 256 % 256) as u8,
+        (WIDEST_ONU % 256) as u8,
+        SERIAL_NUMBER_ONU,
+        0,
+        (serial.vendor / 16777216 % 256) as u8,
+        (serial.vendor / 65536 % 256) as u8,
+        (serial.vendor / 256 % 256) as u8,
+        (serial.vendor % 256) as u8,
+        (serial.vssn / 16777216 % 256) as u8,
+        (serial.vssn / 65536 % 256) as u8,
+        (serial.vssn / 256 % 256) as u8,
+        (serial.vssn % 256) as u8,
+        (delay / 16777216 % 256) as u8,
+        (delay / 65536 % 256) as u8,
+        (delay / 256 % 256) as u8,
+        (delay % 256) as u8,
+        0,
+        0,
+        0,
+        0,
+        0,
+        0,
+        0,
+        0,
+        0,
+        0,
+        0,
+        0,
+        0,
+        0,
+        0,
+        0,
+        0,
+        0,
+        0,
+        0,
+        0,
+        0,
+        0,
+        0,
+    ]
+}
+
+fn registration_octets(onu: OnuId, seq: u8, id: [u8; 36]) -> [u8; 40]
+    ensures { λ r. ⌜ r ≡ octets16 (onu .0) ++ registration ∷ seq ∷ id ⌝ }
+{
+    let mut b = [0u8; 40];
+    b[0] = (onu.0 / 256 % 256) as u8;
+    b[1] = (onu.0 % 256) as u8;
+    b[2] = REGISTRATION;
+    b[3] = seq;
+    let mut i: usize = 0;
+    while i < 36 {
+        b[4 + i] = id[i];
+        i += 1;
+    }
+    b
+}
+
+fn acknowledgement_octets(onu: OnuId, seq: u8, code: u8) -> [u8; 40]
+    ensures { λ r. ⌜ r ≡ octets16 (onu .0) ++ acknowledgement ∷ seq ∷ code ∷ replicate 35 0 ⌝ }
+{
+    [
+        (onu.0 / 256 % 256) as u8,
+        (onu.0 % 256) as u8,
+        ACKNOWLEDGEMENT,
+        seq,
+        code,
+        0,
+        0,
+        0,
+        0,
+        0,
+        0,
+        0,
+        0,
+        0,
+        0,
+        0,
+        0,
+        0,
+        0,
+        0,
+        0,
+        0,
+        0,
+        0,
+        0,
+        0,
+        0,
+        0,
+        0,
+        0,
+        0,
+        0,
+        0,
+        0,
+        0,
+        0,
+        0,
+        0,
+        0,
+        0,
+    ]
+}
+
+fn octets(message: UpstreamMessage, id: [u8; 36]) -> [u8; 40]
+    ensures { λ r. ⌜ r ≡ upstreamOctets message id ⌝ }
+{
+    match message {
+        UpstreamMessage::SerialNumberOnu(serial, delay) => serial_octets(serial, capped(delay)),
+        UpstreamMessage::Registration(onu, seq) => registration_octets(onu, seq, id),
+        UpstreamMessage::Acknowledgement(onu, seq, code) => acknowledgement_octets(
+            onu,
+            seq,
+            completion_code(code),
+        ),
+    }
+}
+
+fn sender(message: UpstreamMessage) -> OnuId
+    ensures { λ r. ⌜ r ≡ upstreamAddress message ⌝ }
+{
+    match message {
+        UpstreamMessage::SerialNumberOnu(_, _) => OnuId::broadcast(),
+        UpstreamMessage::Registration(onu, _) => onu,
+        UpstreamMessage::Acknowledgement(onu, _, _) => onu,
+    }
+}
+
+// The type, as it was laid out. Where an octet of a slice is read, it is known that the slice holds octets.
+fn kind(b: &[u8]) -> u8
+    requires { ⌜ coveredOctets ≤ length (now b) ⌝ }
+    ensures { λ r. ⌜ (r ≡ typeOf (now (b .entry))) × (Octets (now (b .entry))) ⌝ }
+{
+    b[2]
+}
+
+// Lays s over target from a place on.
+fn lay(target: &mut [u8], at: usize, s: &[u8])
+    requires { ⌜ at + length (now s) ≤ length (now target) ⌝ }
+    ensures { λ _. ⌜ now (target .exit) ≡ paste (now (target .entry)) at (now (s .entry)) (length (now (s .entry))) ⌝ }
+{
+    let mut i: usize = 0;
+    while i < s.len() {
+        target[at + i] = s[i];
+        i += 1;
+    }
+}
+
+// Lays octets 1 to 40 and their integrity field over the front of target.
+fn put(
+    t: &[u32; 1024],
+    key: Prepared,
+    direction: Direction,
+    fits: bool,
+    b: &[u8; 40],
+    target: &mut [u8],
+) -> Written
+    ensures { λ r. ⌜ record { answer = r; target = now (target .exit) } ≡ laidBy (now (t .entry)) key direction fits (now (b .entry)) (now (target .entry)) ⌝ }
+{
+    if fits {
+        if target.len() < MESSAGE_OCTETS {
+            return Written::Unfit;
+        }
+        let mic = ploam::integrity::sign(t, key, direction, b);
+        lay(target, 0, b);
+        lay(target, COVERED_OCTETS, &mic);
+        Written::Done
+    } else {
+        Written::Unfit
+    }
+}
+
+// Writes the message, signed with its own key: the default key (`usual`, prepared) or the installed one. Where none is
+// installed, the caller gives the default for both.
+pub fn write(
+    t: &[u32; 1024],
+    usual: Prepared,
+    installed: Prepared,
+    message: UpstreamMessage,
+    id: [u8; 36],
+    target: &mut [u8],
+) -> Written
+    ensures { λ r. ⌜ Leaves (writtenBy (now (t .entry)) usual installed message id (now (target .entry))) (upstreamOctets message id) (record { answer = r; target = now (target .exit) }) ⌝ }
+{
+    let b = octets(message, id);
+    let onu = sender(message);
+    let fits = onu.0 <= WIDEST_ONU;
+    if ploam::integrity::by_default(Direction::Upstream, onu, kind(&b)) {
+        put(t, usual, Direction::Upstream, fits, &b, target)
+    } else {
+        put(t, installed, Direction::Upstream, fits, &b, target)
+    }
+}
