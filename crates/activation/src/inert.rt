@@ -5,12 +5,10 @@ ghost use Prim.Native.Nat.{_+_, _-_, _*_, _/_, _%_, _≤_};
 ghost use lib.ListN.{length};
 ghost use Rattle.ploam.specs.Layout.{messageOctets};
 ghost use Rattle.activation.specs.Inert.{fullOf, inert, pastInert};
-use crate::MESSAGE_OCTETS;
 use ids::OnuId;
+use ploam::DEACTIVATE_ONU_ID;
+use ploam::MESSAGE_OCTETS;
 use station::held::Queue;
-
-// Of Table 11-2, the one type that can act on a station to which it is directed and owes no answer.
-const DEACTIVATE_ONU_ID: u8 = 0x05;
 
 fn address(high: u8, low: u8) -> OnuId
     ensures { λ r. ⌜ r .0 ≡ (high * 256 + low) % 1024 ⌝ }
@@ -29,6 +27,7 @@ fn is_inert(onu: OnuId, full: bool, m: &[u8]) -> bool
     if !to.is(onu) {
         return true;
     }
+    // the one type that can act on the station to which it is directed and owes no answer
     if full {
         return m[2] != DEACTIVATE_ONU_ID;
     }

@@ -19,11 +19,9 @@ use cmac::Prepared;
 use effects::Change;
 use effects::Debt;
 use effects::Effect;
+use ploam::MESSAGE_OCTETS;
 use ploam::Received;
 use station::Station;
-
-// Octets of a message.
-const MESSAGE_OCTETS: usize = 48;
 
 // The key that counts is the one held as the message is considered.
 fn genuine_now(t: &[u32; 1024], usual: Prepared, installed: Prepared, held: bool, m: &[u8]) -> bool

@@ -2,12 +2,11 @@
 ghost use mathlib.Core.Path.{_≡_};
 ghost use Rattle.engine.specs.Partitions.{mapEnd, headerEnd};
 use framing::hlend::Hlend;
+use ploam::MESSAGE_OCTETS;
 
 pub(crate) const HLEND_OCTETS: usize = 4;
 
 const STRUCTURE_OCTETS: usize = 8;
-
-const MESSAGE_OCTETS: usize = 48;
 
 pub(crate) fn map_end(h: Hlend) -> usize
     ensures { λ r. ⌜ r ≡ mapEnd h ⌝ }

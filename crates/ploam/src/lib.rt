@@ -12,7 +12,7 @@ pub const MESSAGE_OCTETS: usize = 48;
 pub const COVERED_OCTETS: usize = 40;
 
 // Types of Table 11-2 (downstream) that the choice of a key looks at.
-const DEACTIVATE_ONU_ID: u8 = 0x05;
+pub const DEACTIVATE_ONU_ID: u8 = 0x05;
 
 const REQUEST_REGISTRATION: u8 = 0x09;
 

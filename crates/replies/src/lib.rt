@@ -11,9 +11,8 @@ ghost use Rattle.station.specs.Limits.{keyOctets};
 ghost use Rattle.replies.specs.Replies.{Keyed, wrote, Left, repliesFrom, Replied};
 use activation::replying::Reply;
 use cmac::Prepared;
+use ploam::MESSAGE_OCTETS;
 use station::Station;
-
-const MESSAGE_OCTETS: usize = 48;
 
 fn write_reply(
     t: &[u32; 1024],
