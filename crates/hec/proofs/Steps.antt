@@ -2,6 +2,7 @@
 -- Assumes nothing.
 use mathlib.Core.Path.{_≡_, sym, ap, _∙_}
 use mathlib.Core.List.{List}
+use native.Mathlib.Omega.{arith}
 use Prim.Native.Nat.{ℕ, _+_, _/_, _%_, _^_, _≤_, _<_}
 use borrow.Author.Tests.{eq-eqb, ne-eqb, le-leb, lt-leb, lt-ltb, le-ltb}
 use lib.Bits.{bitXor}
@@ -22,10 +23,15 @@ sent-word v x e h = sym (ap sent (sym e) ∙ rw (lt-ltb v (2 ^ 32) h))
 pub not-sent : (v : ℕ) (x : Reading) → word v ≡ x → 2 ^ 32 ≤ v → unreadable ≡ sent x
 not-sent v x e h = sym (ap sent (sym e) ∙ rw (le-ltb v (2 ^ 32) h))
 
--- the entry v for the syndrome s
+-- the entry v for the syndrome s: how many code bits, and the bit of the parity
 module _ (v w s : ℕ) where
-  pub too-many : 2 < v / 4096 + (v / 4096 + s / 4096) % 2 → unreadable ≡ mendedAs v w s
-  too-many l = rw (lt-leb (countsOf v + lastBit v s) 2 l)
+  pub too-many : 2 < v / 4096 + s / 4096 % 2 → unreadable ≡ mendedAs v w s
+  too-many l = rw (lt-leb (countsOf v + lastBit v s) 2 (omega (arith, l)))
 
-  pub few-enough : v / 4096 + (v / 4096 + s / 4096) % 2 ≤ 2 → word (bitXor w (bitXor (bitsOf v) (lastBit v s))) ≡ mendedAs v w s
-  few-enough l = rw (le-leb (countsOf v + lastBit v s) 2 l)
+  last-is : (v / 4096 + s / 4096 % 2) % 2 ≡ lastBit v s
+  last-is = omega arith
+
+  pub few-enough : v / 4096 + s / 4096 % 2 ≤ 2 → word (bitXor w (bitXor (bitsOf v) ((v / 4096 + s / 4096 % 2) % 2))) ≡ mendedAs v w s
+  few-enough l =
+      ap (λ b. word (bitXor w (bitXor (bitsOf v) b))) last-is
+      ∙ rw (le-leb (countsOf v + lastBit v s) 2 (omega (arith, l)))

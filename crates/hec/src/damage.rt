@@ -38,16 +38,17 @@ pub(crate) fn syndrome32(t: &[u16; 2048], word: u32) -> u16
 }
 
 // 63 stands for no place, and the bit that it names falls out of the word: which places a damaged word needs is nothing to
-// be guessed by a branch.
+// be guessed by a branch. The last bit is flipped where the code bits leave the number of ones odd; all flips are two at most
+// just where the code bits and an odd number of ones are.
 fn mend_as(entry: u16, word: u64, syndrome: u16) -> Mended
     ensures { λ r. ⌜ foundMended r ≡ mendedAs entry word syndrome ⌝ }
 {
-    let count = entry / 4096;
-    let last = (count + syndrome / 4096) % 2;
-    if count + last <= 2 {
+    let count = entry / 4096 + syndrome / 4096 % 2;
+    if count <= 2 {
         let first = (entry % 64) as usize;
         let second = (entry / 64 % 64) as usize;
         let bits: u64 = (2 << first) ^ (2 << second);
+        let last = count % 2;
         Mended::Word(word ^ (bits ^ last as u64))
     } else {
         Mended::Unreadable

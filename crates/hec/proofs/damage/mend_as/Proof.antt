@@ -5,11 +5,8 @@ use borrow.Author.Needs.{needs}
 use Rattle.hec.proofs.damage.mend_as.Statement.{statement}
 use Rattle.hec.proofs.damage.mend_as.Tie as tie
 
-add-last : tie.Need-add-last
-add-last c = search needs
-
-add-if1 : tie.Need-add-if1
-add-if1 c = search needs
+add-count : tie.Need-add-count
+add-count c = search needs
 
 cast-first : tie.Need-cast-first
 cast-first c = search needs
@@ -23,8 +20,8 @@ shl-bits c = search needs
 shl-bits-2 : tie.Need-shl-bits-2
 shl-bits-2 c = search needs
 
-cast-t15 : tie.Need-cast-t15
-cast-t15 c = search needs
+cast-t16 : tie.Need-cast-t16
+cast-t16 c = search needs
 
 returns : tie.Need-returns
 returns c = let a = c .before .args in few-enough (a .entry) (a .word) (a .syndrome) (c .if1 .taken)
@@ -36,12 +33,11 @@ pub mend-as-spec : {M : Type 1} → statement M
 mend-as-spec =
     tie.close
     (tie.spec
-    add-last
-    add-if1
+    add-count
     cast-first
     cast-second
     shl-bits
     shl-bits-2
-    cast-t15
+    cast-t16
     returns
     returns-2)
