@@ -13,10 +13,10 @@ use Rattle.cmac.specs.ByTable.{preparedBy}
 use Rattle.cmac.specs.declared.Prepared.{Prepared}
 use Rattle.ploam.specs.Layout.{messageOctets}
 use Rattle.ploam.specs.Reading.{received}
-use Rattle.ploam.specs.Integrity.{defaultKey, installedKey, genuine, genuineBy}
+use Rattle.integrity.specs.Integrity.{defaultKey, installedKey, genuine, genuineBy}
 use Rattle.ploam.specs.declared.Received.{Received}
 use Rattle.ploam.specs.declared.Received.the-variants.{Whole, Short}
-use Rattle.ploam.proofs.Keys.{octets-take, default-octets, genuine-by-mix-table}
+use Rattle.integrity.proofs.Keys.{octets-take, default-octets, genuine-by-mix-table}
 use Rattle.station.specs.declared.Station.{Station}
 use Rattle.station.specs.declared.held.Key.{Key}
 use Rattle.station.specs.Held.{noKey}

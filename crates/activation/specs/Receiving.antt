@@ -8,7 +8,7 @@ use lib.ListN.{length, take, drop}
 use Rattle.cmac.specs.declared.Prepared.{Prepared}
 use Rattle.ploam.specs.Layout.{messageOctets}
 use Rattle.ploam.specs.Reading.{received}
-use Rattle.ploam.specs.Integrity.{installedKey, genuine, genuineBy}
+use Rattle.integrity.specs.Integrity.{installedKey, genuine, genuineBy}
 use Rattle.ploam.specs.declared.Received.{Received}
 use Rattle.ploam.specs.declared.Received.the-variants.{Whole, Short}
 use Rattle.station.specs.declared.Station.{Station}

@@ -28,9 +28,9 @@ fn genuine_now(t: &[u32; 1024], usual: Prepared, installed: Prepared, held: bool
     ensures { λ r. ⌜ r ≡ genuineNow (now (t .entry)) usual installed held (now (m .entry)) ⌝ }
 {
     if held {
-        return ploam::integrity::genuine(t, usual, installed, m);
+        return integrity::genuine(t, usual, installed, m);
     }
-    ploam::integrity::genuine(t, usual, usual, m)
+    integrity::genuine(t, usual, usual, m)
 }
 
 fn ignored() -> Effect
@@ -144,7 +144,7 @@ pub fn receive_all_by(t: &[u32; 1024], s: Station, messages: &[u8]) -> Station
     if messages.len() / MESSAGE_OCTETS <= first {
         return s;
     }
-    let usual = ploam::integrity::default_key();
+    let usual = integrity::default_key();
     let key = link.key;
     let octets = key.octets;
     if key.held {

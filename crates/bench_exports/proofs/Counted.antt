@@ -12,8 +12,8 @@ use Rattle.aes.specs.MixTable.{mixTable}
 use Rattle.cmac.specs.declared.Prepared.{Prepared}
 use Rattle.cmac.specs.ByTable.{preparedBy}
 use Rattle.ploam.specs.Layout.{messageOctets}
-use Rattle.ploam.specs.Integrity.{defaultKey, genuineBy}
-use Rattle.ploam.proofs.Keys.{octets-take, genuine-by-mix-table}
+use Rattle.integrity.specs.Integrity.{defaultKey, genuineBy}
+use Rattle.integrity.proofs.Keys.{octets-take, genuine-by-mix-table}
 use Rattle.activation.specs.Receiving.{messageAt, messagesFrom}
 use Rattle.bench_exports.specs.Messages.{oneIf, genuineCount, genuineCountBy}
 

@@ -5,7 +5,7 @@ use mathlib.Core.List.{List, [], _∷_}
 use Prim.Native.Nat.{ℕ, _+_}
 use lib.ListN.{replicate}
 use Rattle.cmac.specs.declared.Prepared.{Prepared}
-use Rattle.ploam.specs.Integrity.{genuine, genuineBy}
+use Rattle.integrity.specs.Integrity.{genuine, genuineBy}
 use Rattle.station.specs.Held.{nothing, installed, withOnu, withKey}
 use Rattle.station.specs.Station.{powerOn, withLink, withActivation}
 use Rattle.station.specs.declared.Activation.the-variants.{Operation}

@@ -48,7 +48,7 @@ fn count_genuine(t: &[u32; 1024], usual: Prepared, installed: Prepared, messages
     while i < n {
         let at = 48 * i;
         let end = at + 48;
-        sum = sum + one_if(ploam::integrity::genuine(t, usual, installed, &messages[at..end]));
+        sum = sum + one_if(integrity::genuine(t, usual, installed, &messages[at..end]));
         i += 1;
     }
     sum
@@ -60,7 +60,7 @@ pub extern "C" fn bench_genuine(messages: &[u8]) -> usize
     ensures { λ r. ⌜ r ≡ genuineCount benchKey (messagesIn (now (messages .entry))) ⌝ }
 {
     let t = aes::table::MIX;
-    let usual = ploam::integrity::default_key();
+    let usual = integrity::default_key();
     let installed = cmac::prepare(&t, [9u8; 16]);
     count_genuine(&t, usual, installed, messages)
 }

@@ -31,7 +31,7 @@ use Rattle.effects.specs.Decisions.{decision}
 use Rattle.effects.specs.Acts.{act}
 use Rattle.effects.proofs.Acting.{order-of-tests}
 use Rattle.ploam.specs.Reading.{received}
-use Rattle.ploam.specs.Integrity.{genuine, installedKey}
+use Rattle.integrity.specs.Integrity.{genuine, installedKey}
 use Rattle.activation.specs.Receiving.{acting, receive, receiveAll}
 use Rattle.activation.specs.Replying.{afterIn, afterReply}
 use Rattle.host.specs.Host.{done, answerToAdd, answerToRemove, answerToKey, afterAdd, afterRemove, afterKey}

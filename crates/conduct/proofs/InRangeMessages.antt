@@ -11,7 +11,7 @@ use Rattle.ploam.specs.declared.Message.{Message}
 use Rattle.ploam.specs.declared.Received.{Received}
 use Rattle.ploam.specs.declared.Received.the-variants.{Whole, Short}
 use Rattle.ploam.specs.Reading.{received}
-use Rattle.ploam.specs.Integrity.{genuine, installedKey}
+use Rattle.integrity.specs.Integrity.{genuine, installedKey}
 use Rattle.station.specs.declared.Activation.{Activation}
 use Rattle.station.specs.declared.Activation.the-variants.{Initial, SerialNumber, Ranging, Operation, Intermittent, EmergencyStop}
 use Rattle.station.specs.declared.Station.{Station}

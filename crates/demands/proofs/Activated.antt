@@ -18,12 +18,12 @@ use Rattle.framing.specs.declared.hlend.Hlend.{Hlend}
 use Rattle.framing.specs.Layouts.{hlendOf}
 use Rattle.framing.specs.Reads.{fields, taken, readHlend}
 use Rattle.ploam.specs.Layout.{messageOctets, coveredOctets, addressOf, typeOf}
-use Rattle.ploam.specs.Integrity.{covered, micOf, micRight, defaultKey, byDefault, installedKey, genuine}
+use Rattle.integrity.specs.Integrity.{covered, micOf, micRight, defaultKey, byDefault, installedKey, genuine}
 use Rattle.ploam.specs.Reading.{contentAs, messageOf, received}
-use Rattle.ploam.specs.declared.Direction.the-variants.{Downstream}
+use Rattle.integrity.specs.declared.Direction.the-variants.{Downstream}
 use Rattle.ploam.specs.declared.Received.{Received}
 use Rattle.ploam.specs.declared.Received.the-variants.{Whole, Short}
-use Rattle.ploam.proofs.Signed.{mic-length, signed-right}
+use Rattle.integrity.proofs.Signed.{mic-length, signed-right}
 use Rattle.station.specs.declared.Station.{Station}
 use Rattle.station.specs.declared.Activation.{Activation}
 use Rattle.station.specs.declared.Activation.the-variants.{Operation}

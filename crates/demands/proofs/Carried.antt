@@ -9,7 +9,7 @@ use Rattle.ids.specs.declared.PortId.{PortId}
 use Rattle.ploam.specs.declared.Received.{Received}
 use Rattle.ploam.specs.declared.Received.the-variants.{Whole, Short}
 use Rattle.ploam.specs.Reading.{received}
-use Rattle.ploam.specs.Integrity.{installedKey, genuine}
+use Rattle.integrity.specs.Integrity.{installedKey, genuine}
 use Rattle.station.specs.declared.Activation.{Activation}
 use Rattle.station.specs.declared.Activation.the-variants.{Initial, SerialNumber, Ranging, Operation, Intermittent, EmergencyStop}
 use Rattle.station.specs.declared.Station.{Station}

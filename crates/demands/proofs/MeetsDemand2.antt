@@ -6,11 +6,11 @@ use mathlib.Core.Bool.{Bool, true, false, cond}
 use mathlib.Core.List.{List}
 use Rattle.framing.proofs.RoundTrips.{hlend-written-read, allocation-written-read, xgem-written-read, frame-written-read}
 use Rattle.ploam.specs.Reading.{received}
-use Rattle.ploam.specs.Integrity.{installedKey, genuine}
+use Rattle.integrity.specs.Integrity.{installedKey, genuine}
 use Rattle.ploam.specs.declared.Message.{Message}
 use Rattle.ploam.specs.declared.Received.{Received}
 use Rattle.ploam.specs.declared.Received.the-variants.{Whole, Short}
-use Rattle.ploam.proofs.Signed.{signed-right}
+use Rattle.integrity.proofs.Signed.{signed-right}
 use Rattle.upstream.proofs.RoundTrip.{round-trip}
 use Rattle.station.specs.declared.Station.{Station}
 use Rattle.effects.specs.Decisions.{isOurs, effectOf, fitting}

@@ -16,9 +16,9 @@ use Rattle.framing.specs.Layouts.{hlendFits, allocationFits, xgemFits, payloadS
 use Rattle.framing.specs.Reads.{fields, readHlend, readAllocation, readXgem}
 use Rattle.framing.specs.Writes.{carrying}
 use Rattle.ploam.specs.Layout.{messageOctets, coveredOctets, addressOf, typeOf, seqNoOf}
-use Rattle.ploam.specs.Integrity.{micOf, micRight, keyFor, installedKey, genuine}
-use Rattle.ploam.specs.declared.Direction.{Direction}
-use Rattle.ploam.specs.declared.Direction.the-variants.{Upstream}
+use Rattle.integrity.specs.Integrity.{micOf, micRight, keyFor, installedKey, genuine}
+use Rattle.integrity.specs.declared.Direction.{Direction}
+use Rattle.integrity.specs.declared.Direction.the-variants.{Upstream}
 use Rattle.upstream.specs.Upstream.{upstreamAddress, upstreamType, upstreamSeqNo, upstreamContent, heard, asSent, Numbers}
 use Rattle.upstream.specs.Writing.{written}
 use Rattle.upstream.specs.declared.UpstreamMessage.{UpstreamMessage}

@@ -11,9 +11,9 @@ use lib.Seq.{drop-drop, drop-at}
 use Rattle.framing.specs.declared.hlend.Hlend.{Hlend}
 use Rattle.framing.specs.Reads.{Found, fields, unreadable, short, readHlend}
 use Rattle.ploam.specs.Layout.{messageOctets}
-use Rattle.ploam.specs.Integrity.{micOf, keyFor}
-use Rattle.ploam.specs.declared.Direction.the-variants.{Upstream}
-use Rattle.ploam.proofs.Signed.{mic-length}
+use Rattle.integrity.specs.Integrity.{micOf, keyFor}
+use Rattle.integrity.specs.declared.Direction.the-variants.{Upstream}
+use Rattle.integrity.proofs.Signed.{mic-length}
 use Rattle.upstream.specs.Upstream.{upstreamAddress, upstreamType, upstreamOctets, fitting}
 use Rattle.upstream.specs.Writing.{Outcome, laid, written}
 use Rattle.upstream.specs.declared.Written.the-variants.{Done, Unfit}

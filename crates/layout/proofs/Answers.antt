@@ -6,7 +6,7 @@ use mathlib.Core.List.{List}
 use Prim.Native.Nat.{ℕ, _≤_, _<_}
 use lib.ListN.{length, take, replicate}
 use borrow.Author.Tests.{le-leb, lt-leb}
-use Rattle.ploam.specs.Integrity.{same}
+use Rattle.integrity.specs.Integrity.{same}
 use Rattle.station.specs.declared.Station.{Station}
 use Rattle.station.specs.Station.{powerOn}
 use Rattle.layout.specs.declared.StateRead.{StateRead}

@@ -11,8 +11,8 @@ use lib.Seq.{take-all, take-take, take-add, drop-drop, getD-take, getD-drop, len
 use borrow.Author.Tests.{ltb-true, ltb-false, eqb-true, eqb-false, eq-eqb, ne-eqb, le-leb, lt-leb}
 use Rattle.framing.specs.Octets.{value, octets}
 use Rattle.framing.proofs.Numbers.{Bytes, octets-value, octets-length, value-octets, value-lt}
-use Rattle.ploam.specs.Integrity.{same}
-use Rattle.ploam.proofs.Same.{same-refl, same-equal}
+use Rattle.integrity.specs.Integrity.{same}
+use Rattle.integrity.proofs.Same.{same-refl, same-equal}
 use Rattle.station.specs.declared.Activation.{Activation}
 use Rattle.station.specs.declared.Activation.the-variants.{Initial, SerialNumber, Ranging, Operation, Intermittent, EmergencyStop}
 use Rattle.station.specs.States.{stateNumber}

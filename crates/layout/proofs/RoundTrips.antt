@@ -13,8 +13,8 @@ use Rattle.framing.specs.Octets.{value, octets}
 use Rattle.framing.specs.Reads.{Found, fields, unreadable, short}
 use Rattle.framing.specs.Writes.{put}
 use Rattle.framing.proofs.Numbers.{value-octets}
-use Rattle.ploam.specs.Integrity.{same}
-use Rattle.ploam.proofs.Same.{same-refl, same-equal}
+use Rattle.integrity.specs.Integrity.{same}
+use Rattle.integrity.proofs.Same.{same-refl, same-equal}
 use Rattle.station.specs.declared.Station.{Station}
 use Rattle.station.specs.Station.{powerOn}
 use Rattle.layout.specs.declared.StateRead.{StateRead}

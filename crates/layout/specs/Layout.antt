@@ -12,7 +12,7 @@ use Rattle.ids.specs.declared.PortId.{PortId}
 use Rattle.framing.specs.Octets.{value, octets}
 use Rattle.framing.specs.Reads.{Found, fields, unreadable, short}
 use Rattle.framing.specs.Writes.{put}
-use Rattle.ploam.specs.Integrity.{same}
+use Rattle.integrity.specs.Integrity.{same}
 use Rattle.station.specs.declared.Activation.{Activation}
 use Rattle.station.specs.declared.Activation.the-variants.{Initial, SerialNumber, Ranging, Operation, Intermittent, EmergencyStop}
 use Rattle.station.specs.declared.Station.{Station}

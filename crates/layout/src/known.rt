@@ -3,7 +3,7 @@
 ghost use mathlib.Core.Path.{_≡_};
 ghost use Prim.Native.Nat.{_≤_};
 ghost use lib.ListN.{length, take};
-ghost use Rattle.ploam.specs.Integrity.{same};
+ghost use Rattle.integrity.specs.Integrity.{same};
 ghost use Rattle.layout.specs.Layout.{encoded, shown, stateBytes};
 ghost use Rattle.layout.specs.KnownOctets.{activationKnown, markKnown, answerKnown, eachKnown};
 use super::numbers;

@@ -22,7 +22,7 @@ use Rattle.ploam.specs.declared.Received.{Received}
 use Rattle.ploam.specs.declared.Received.the-variants.{Whole, Short}
 use Rattle.ploam.specs.Layout.{messageOctets}
 use Rattle.ploam.specs.Reading.{messageOf, contentOf, received}
-use Rattle.ploam.specs.Integrity.{installedKey, genuine, micRight}
+use Rattle.integrity.specs.Integrity.{installedKey, genuine, micRight}
 use Rattle.station.specs.declared.Activation.{Activation}
 use Rattle.station.specs.declared.Activation.the-variants.{Initial, SerialNumber, Ranging, Operation, Intermittent, EmergencyStop}
 use Rattle.station.specs.declared.Station.{Station}

@@ -16,7 +16,7 @@ use Rattle.ploam.specs.declared.AllocChange.the-variants.{Assign, Deallocate, O
 use Rattle.ploam.specs.declared.Content.{Content}
 use Rattle.ploam.specs.declared.Content.the-variants.{Profile, AssignOnuId, RangingTime, DeactivateOnuId, DisableSerialNumber, RequestRegistration, AssignAllocId, KeyControl, SleepAllow, Unknown}
 use Rattle.ploam.specs.Reading.{serialAt, contentOf, messageOf}
-use Rattle.ploam.specs.Integrity.{installedKey, genuine}
+use Rattle.integrity.specs.Integrity.{installedKey, genuine}
 use Rattle.station.specs.declared.Station.{Station}
 use Rattle.station.specs.declared.held.Allocs.{Allocs}
 use Rattle.station.specs.Limits.{addedAllocs, mostOwed}

@@ -1,6 +1,2 @@
 pub mod Types
-pub mod Same
-pub mod Keys
-pub mod Signed
 pub mod Determined
-pub mod WhichKey

@@ -1,31 +1,21 @@
-// The messages of the PLOAM channel (G.987.3, clauses 11 and 15.6): 48 octets, read and checked. Those that a station
-// sends are in the crate above.
-pub mod integrity;
+// The messages of the PLOAM channel (G.987.3, clause 11): 48 octets, read. Whether one is genuine is the matter of the
+// crate `integrity`, and those that a station sends of `upstream`.
 pub mod reading;
 
 use ids::AllocId;
 use ids::OnuId;
 
-// A message, and the part of it that the integrity field covers.
 pub const MESSAGE_OCTETS: usize = 48;
-
-pub const COVERED_OCTETS: usize = 40;
 
 // Types of Table 11-2 (downstream) that the choice of a key looks at.
 pub const DEACTIVATE_ONU_ID: u8 = 0x05;
 
-const REQUEST_REGISTRATION: u8 = 0x09;
+pub const REQUEST_REGISTRATION: u8 = 0x09;
 
 // Those of Table 11-3 (upstream).
 pub const SERIAL_NUMBER_ONU: u8 = 0x01;
 
 pub const REGISTRATION: u8 = 0x02;
-
-// Which way a message goes: it is a part of what the integrity field covers.
-pub enum Direction {
-    Downstream,
-    Upstream,
-}
 
 // Vendor-ID and vendor-specific serial number.
 pub struct SerialNumber {

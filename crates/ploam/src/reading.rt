@@ -52,7 +52,7 @@ fn serial_number(m: &[u8], i: usize) -> SerialNumber
     }
 }
 
-pub(crate) fn address(m: &[u8]) -> OnuId
+fn address(m: &[u8]) -> OnuId
     requires { ⌜ messageOctets ≤ length (now m) ⌝ }
     ensures { λ r. ⌜ r ≡ addressOf (now (m .entry)) ⌝ }
 {

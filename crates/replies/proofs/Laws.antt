@@ -11,8 +11,8 @@ use Rattle.aes.specs.Words.{wordsOf, Octets}
 use Rattle.aes.specs.MixTable.{mixTable}
 use Rattle.cmac.specs.ByTable.{preparedBy}
 use Rattle.cmac.specs.declared.Prepared.{Prepared}
-use Rattle.ploam.specs.Integrity.{defaultKey, installedKey}
-use Rattle.ploam.proofs.Keys.{default-octets}
+use Rattle.integrity.specs.Integrity.{defaultKey, installedKey}
+use Rattle.integrity.proofs.Keys.{default-octets}
 use Rattle.upstream.specs.declared.UpstreamMessage.{UpstreamMessage}
 use Rattle.upstream.specs.Upstream.{upstreamOctets}
 use Rattle.upstream.specs.Writing.{Outcome, Leaves, written, writtenBy}

@@ -9,7 +9,7 @@ use Rattle.aes.specs.MixTable.{mixTable}
 use Rattle.cmac.specs.ByTable.{preparedBy}
 use Rattle.cmac.specs.declared.Prepared.{Prepared}
 use Rattle.ploam.specs.Layout.{messageOctets}
-use Rattle.ploam.specs.Integrity.{defaultKey, installedKey}
+use Rattle.integrity.specs.Integrity.{defaultKey, installedKey}
 use Rattle.upstream.specs.Writing.{written}
 use Rattle.station.specs.declared.Station.{Station}
 use Rattle.station.specs.declared.held.Key.{Key}

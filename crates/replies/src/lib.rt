@@ -86,7 +86,7 @@ pub fn reply_all_by(
     if k == 0 {
         return s;
     }
-    let usual = ploam::integrity::default_key();
+    let usual = integrity::default_key();
     let link = s.link;
     let key = link.key;
     let octets = key.octets;

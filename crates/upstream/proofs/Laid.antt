@@ -13,8 +13,8 @@ use Rattle.ids.specs.declared.OnuId.{OnuId}
 use Rattle.aes.specs.Words.{Octets}
 use Rattle.cmac.specs.declared.Prepared.{Prepared}
 use Rattle.ploam.specs.Layout.{messageOctets, coveredOctets, typeOf}
-use Rattle.ploam.specs.Integrity.{byDefault}
-use Rattle.ploam.specs.declared.Direction.the-variants.{Upstream}
+use Rattle.integrity.specs.Integrity.{byDefault}
+use Rattle.integrity.specs.declared.Direction.the-variants.{Upstream}
 use Rattle.upstream.specs.Upstream.{upstreamAddress, upstreamType, upstreamOctets, fitting}
 use Rattle.upstream.specs.Writing.{Outcome, laid, laidBy, writtenBy, Leaves}
 use Rattle.upstream.specs.declared.UpstreamMessage.{UpstreamMessage}

@@ -16,11 +16,11 @@ use Rattle.aes.specs.MixTable.{mixTable}
 use Rattle.cmac.specs.ByTable.{preparedBy, mac64By}
 use Rattle.cmac.proofs.Macs.{mac64-by-mix-table}
 use Rattle.ploam.specs.Layout.{messageOctets, coveredOctets, addressOf, typeOf, seqNoOf}
-use Rattle.ploam.specs.Integrity.{covered, micOf, micRight, defaultKey, byDefault, keyFor}
-use Rattle.ploam.specs.declared.Direction.the-variants.{Upstream}
+use Rattle.integrity.specs.Integrity.{covered, micOf, micRight, defaultKey, byDefault, keyFor}
+use Rattle.integrity.specs.declared.Direction.the-variants.{Upstream}
 use Rattle.ploam.specs.declared.SerialNumber.{SerialNumber}
-use Rattle.ploam.proofs.Keys.{octets-covered, default-octets}
-use Rattle.ploam.proofs.Signed.{mic-length, signed-right}
+use Rattle.integrity.proofs.Keys.{octets-covered, default-octets}
+use Rattle.integrity.proofs.Signed.{mic-length, signed-right}
 use Rattle.upstream.specs.Upstream.{longestDelay, capped, upstreamAddress, upstreamType, upstreamSeqNo, upstreamContent, upstreamOctets, fitting, registrationId, heardAs, heard, asSent, Numbers}
 use Rattle.upstream.specs.Writing.{Outcome, laid, written, writtenBy}
 use Rattle.upstream.specs.declared.Completion.{Completion}

@@ -10,9 +10,9 @@ use Rattle.aes.specs.Words.{Octets}
 use Rattle.cmac.specs.ByTable.{mac64By}
 use Rattle.cmac.specs.declared.Prepared.{Prepared}
 use Rattle.ploam.specs.Layout.{messageOctets}
-use Rattle.ploam.specs.Integrity.{covered, micOf, byDefault, keyFor}
-use Rattle.ploam.specs.declared.Direction.{Direction}
-use Rattle.ploam.specs.declared.Direction.the-variants.{Upstream}
+use Rattle.integrity.specs.Integrity.{covered, micOf, byDefault, keyFor}
+use Rattle.integrity.specs.declared.Direction.{Direction}
+use Rattle.integrity.specs.declared.Direction.the-variants.{Upstream}
 use Rattle.upstream.specs.Upstream.{upstreamAddress, upstreamType, upstreamOctets, fitting}
 use Rattle.upstream.specs.declared.UpstreamMessage.{UpstreamMessage}
 use Rattle.upstream.specs.declared.Written.{Written}

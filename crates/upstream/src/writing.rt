@@ -15,8 +15,8 @@ use super::UpstreamMessage;
 use super::Written;
 use cmac::Prepared;
 use ids::OnuId;
-use ploam::COVERED_OCTETS;
-use ploam::Direction;
+use integrity::COVERED_OCTETS;
+use integrity::Direction;
 use ploam::MESSAGE_OCTETS;
 use ploam::REGISTRATION;
 use ploam::SERIAL_NUMBER_ONU;
@@ -223,7 +223,7 @@ fn put(
         if target.len() < MESSAGE_OCTETS {
             return Written::Unfit;
         }
-        let mic = ploam::integrity::sign(t, key, direction, b);
+        let mic = integrity::sign(t, key, direction, b);
         lay(target, 0, b);
         lay(target, COVERED_OCTETS, &mic);
         Written::Done
@@ -247,7 +247,7 @@ pub fn write(
     let b = octets(message, id);
     let onu = sender(message);
     let fits = onu.0 <= WIDEST_ONU;
-    if ploam::integrity::by_default(Direction::Upstream, onu, kind(&b)) {
+    if integrity::by_default(Direction::Upstream, onu, kind(&b)) {
         put(t, usual, Direction::Upstream, fits, &b, target)
     } else {
         put(t, installed, Direction::Upstream, fits, &b, target)

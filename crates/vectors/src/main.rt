@@ -1,8 +1,8 @@
 // Runs the documents' vectors and prints what was computed.
 mod headers;
-mod integrity;
+mod macs;
 
 fn main() {
     headers::run();
-    integrity::run();
+    macs::run();
 }

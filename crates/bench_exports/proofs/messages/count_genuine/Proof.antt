@@ -7,7 +7,7 @@ use Prim.Native.Nat.{_<_, _^_, ℕ, _+_, _-_, _*_, _/_, _≤_}
 use denote.Ref.{now}
 use lib.ListN.{length, take, drop}
 use borrow.Author.Needs.{needs}
-use Rattle.ploam.specs.Integrity.{genuineBy}
+use Rattle.integrity.specs.Integrity.{genuineBy}
 use Rattle.activation.specs.Receiving.{messagesFrom, messagesIn}
 use Rattle.bench_exports.specs.Messages.{oneIf, genuineCountBy}
 use Rattle.bench_exports.proofs.Counted.{counted, counted-all}

@@ -5,7 +5,7 @@ use borrow.Author.Tests.{not-true, not-false}
 use native.Mathlib.Omega.{arith}
 use denote.Ref.{now}
 use lib.ListN.{take}
-use Rattle.ploam.specs.Integrity.{same}
+use Rattle.integrity.specs.Integrity.{same}
 use Rattle.layout.specs.Layout.{stateBytes, encoded, shown}
 use Rattle.layout.specs.KnownOctets.{octetsKnown}
 use Rattle.layout.proofs.KnownOctets.{octets-known}

@@ -8,7 +8,7 @@ use lib.ListN.{length}
 use lib.Seq.{paste}
 use Rattle.cmac.specs.ByTable.{mac64By}
 use Rattle.ploam.specs.Layout.{coveredOctets}
-use Rattle.ploam.specs.Integrity.{covered}
+use Rattle.integrity.specs.Integrity.{covered}
 use Rattle.upstream.proofs.Laid.{laid-wide, laid-short, laid-done}
 use borrow.Author.Needs.{needs}
 use Rattle.upstream.proofs.writing.put.Statement.{statement}

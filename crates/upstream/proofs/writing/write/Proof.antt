@@ -4,8 +4,8 @@ use mathlib.Core.Path.{_≡_, _∙_, sym, ap}
 use mathlib.Core.Bool.{Bool, true, false, cond}
 use denote.Ref.{now}
 use Rattle.ploam.specs.Layout.{typeOf}
-use Rattle.ploam.specs.Integrity.{byDefault, upstreamByDefault}
-use Rattle.ploam.specs.declared.Direction.the-variants.{Upstream}
+use Rattle.integrity.specs.Integrity.{byDefault, upstreamByDefault}
+use Rattle.integrity.specs.declared.Direction.the-variants.{Upstream}
 use Rattle.upstream.specs.Upstream.{upstreamAddress, upstreamType}
 use Rattle.upstream.proofs.Laid.{type-laid, write-of}
 use borrow.Author.Needs.{needs}

@@ -1,0 +1,5 @@
+pub mod Same
+pub mod Keys
+pub mod Signed
+pub mod Determined
+pub mod WhichKey

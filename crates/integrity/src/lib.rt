@@ -1,0 +1,235 @@
+// The integrity check of a PLOAM message (G.987.3, clause 15.6), and which key it is made with.
+ghost use mathlib.Core.Path.{_≡_};
+ghost use mathlib.Core.List.{_∷_};
+ghost use Prim.Native.Nat.{_≤_};
+ghost use lib.ListN.{length, take};
+ghost use Rattle.aes.specs.Words.{wordsOf};
+ghost use Rattle.aes.specs.MixTable.{mixTable};
+ghost use Rattle.cmac.specs.ByTable.{preparedBy, mac64By};
+ghost use Rattle.ploam.specs.Layout.{messageOctets, coveredOctets, addressOf, micField};
+ghost use Rattle.integrity.specs.Integrity.{directionCode, covered, same, defaultKey, downstreamByDefault, upstreamByDefault, byDefault, micRightBy, genuineBy};
+use aes::FirstKeys;
+use aes::LastKeys;
+use aes::RoundKeys;
+use aes::Words;
+use cmac::Prepared;
+use ids::OnuId;
+use ploam::DEACTIVATE_ONU_ID;
+use ploam::MESSAGE_OCTETS;
+use ploam::REGISTRATION;
+use ploam::REQUEST_REGISTRATION;
+use ploam::SERIAL_NUMBER_ONU;
+
+// The part of a message that the integrity field covers.
+pub const COVERED_OCTETS: usize = 40;
+
+// Which way a message goes: it is a part of what the integrity field covers.
+pub enum Direction {
+    Downstream,
+    Upstream,
+}
+
+fn direction_code(direction: Direction) -> u8
+    ensures { λ r. ⌜ r ≡ directionCode direction ⌝ }
+{
+    match direction {
+        Direction::Downstream => 1,
+        Direction::Upstream => 2,
+    }
+}
+
+fn with_code(code: u8, m: &[u8]) -> [u8; 41]
+    requires { ⌜ coveredOctets ≤ length (now m) ⌝ }
+    ensures { λ r. ⌜ r ≡ code ∷ take coveredOctets (now (m .entry)) ⌝ }
+{
+    let mut b = [0u8; 41];
+    b[0] = code;
+    let mut i: usize = 0;
+    while i < COVERED_OCTETS {
+        b[i + 1] = m[i];
+        i += 1;
+    }
+    b
+}
+
+fn mic(t: &[u32; 1024], key: Prepared, direction: Direction, m: &[u8]) -> [u8; 8]
+    requires { ⌜ coveredOctets ≤ length (now m) ⌝ }
+    ensures { λ r. ⌜ r ≡ mac64By (now (t .entry)) key (covered direction (now (m .entry))) ⌝ }
+{
+    let b = with_code(direction_code(direction), m);
+    cmac::mac64(t, key, &b)
+}
+
+// The integrity field for octets 1 to 40 of a message that is to be sent.
+pub fn sign(t: &[u32; 1024], key: Prepared, direction: Direction, octets: &[u8; 40]) -> [u8; 8]
+    ensures { λ r. ⌜ r ≡ mac64By (now (t .entry)) key (covered direction (now (octets .entry))) ⌝ }
+{
+    mic(t, key, direction, octets)
+}
+
+fn has_mic(m: &[u8], mic: [u8; 8]) -> bool
+    requires { ⌜ messageOctets ≤ length (now m) ⌝ }
+    ensures { λ r. ⌜ r ≡ same (micField (now (m .entry))) mic ⌝ }
+{
+    let mut i: usize = 0;
+    while i < 8 {
+        if m[COVERED_OCTETS + i] != mic[i] {
+            return false;
+        }
+        i += 1;
+    }
+    true
+}
+
+pub fn mic_right(t: &[u32; 1024], key: Prepared, direction: Direction, m: &[u8]) -> bool
+    ensures { λ r. ⌜ r ≡ micRightBy (now (t .entry)) key direction (now (m .entry)) ⌝ }
+{
+    if m.len() < MESSAGE_OCTETS {
+        return false;
+    }
+    has_mic(m, mic(t, key, direction, m))
+}
+
+fn downstream_by_default(address: OnuId, kind: u8) -> bool
+    ensures { λ r. ⌜ r ≡ downstreamByDefault address kind ⌝ }
+{
+    if address.is(OnuId::broadcast()) {
+        return true;
+    }
+    if kind == DEACTIVATE_ONU_ID {
+        return true;
+    }
+    kind == REQUEST_REGISTRATION
+}
+
+fn upstream_by_default(kind: u8) -> bool
+    ensures { λ r. ⌜ r ≡ upstreamByDefault kind ⌝ }
+{
+    if kind == SERIAL_NUMBER_ONU {
+        return true;
+    }
+    kind == REGISTRATION
+}
+
+pub fn by_default(direction: Direction, address: OnuId, kind: u8) -> bool
+    ensures { λ r. ⌜ r ≡ byDefault direction address kind ⌝ }
+{
+    match direction {
+        Direction::Downstream => downstream_by_default(address, kind),
+        Direction::Upstream => upstream_by_default(kind),
+    }
+}
+
+fn address(m: &[u8]) -> OnuId
+    requires { ⌜ messageOctets ≤ length (now m) ⌝ }
+    ensures { λ r. ⌜ r ≡ addressOf (now (m .entry)) ⌝ }
+{
+    OnuId(ploam::reading::join16(m[0], m[1]) % 1024)
+}
+
+// Whether a downstream message's integrity field is right under its own key: the default key (`usual`, prepared) or the
+// installed one. Where none is installed, the caller gives the default for both.
+pub fn genuine(t: &[u32; 1024], usual: Prepared, installed: Prepared, m: &[u8]) -> bool
+    ensures { λ r. ⌜ r ≡ genuineBy (now (t .entry)) usual installed (now (m .entry)) ⌝ }
+{
+    if m.len() < MESSAGE_OCTETS {
+        return false;
+    }
+    if by_default(Direction::Downstream, address(m), m[2]) {
+        mic_right(t, usual, Direction::Downstream, m)
+    } else {
+        mic_right(t, installed, Direction::Downstream, m)
+    }
+}
+
+// The default key of 15.8.1, sixteen octets 0x55, prepared. That these are its words is proved, not trusted.
+pub fn default_key() -> Prepared
+    ensures { λ r. ⌜ r ≡ preparedBy mixTable (wordsOf defaultKey) ⌝ }
+{
+    Prepared {
+        keys: RoundKeys {
+            first: FirstKeys {
+                k0: Words {
+                    a: 0x55555555,
+                    b: 0x55555555,
+                    c: 0x55555555,
+                    d: 0x55555555,
+                },
+                k1: Words {
+                    a: 0xa8a9a9a9,
+                    b: 0xfdfcfcfc,
+                    c: 0xa8a9a9a9,
+                    d: 0xfdfcfcfc,
+                },
+                k2: Words {
+                    a: 0x1a1919fd,
+                    b: 0xe7e5e501,
+                    c: 0x4f4c4ca8,
+                    d: 0xb2b0b054,
+                },
+                k3: Words {
+                    a: 0xf9fe39ca,
+                    b: 0x1e1bdccb,
+                    c: 0x51579063,
+                    d: 0xe3e72037,
+                },
+                k4: Words {
+                    a: 0x6549a3db,
+                    b: 0x7b527f10,
+                    c: 0x2a05ef73,
+                    d: 0xc9e2cf44,
+                },
+                k5: Words {
+                    a: 0xedc3b806,
+                    b: 0x9691c716,
+                    c: 0xbc942865,
+                    d: 0x7576e721,
+                },
+            },
+            last: LastKeys {
+                k6: Words {
+                    a: 0xf557459b,
+                    b: 0x63c6828d,
+                    c: 0xdf52aae8,
+                    d: 0xaa244dc9,
+                },
+                k7: Words {
+                    a: 0x83b49837,
+                    b: 0xe0721aba,
+                    c: 0x3f20b052,
+                    d: 0x9504fd9b,
+                },
+                k8: Words {
+                    a: 0xf1e08c1d,
+                    b: 0x119296a7,
+                    c: 0x2eb226f5,
+                    d: 0xbbb6db6e,
+                },
+                k9: Words {
+                    a: 0xa45913f7,
+                    b: 0xb5cb8550,
+                    c: 0x9b79a3a5,
+                    d: 0x20cf78cb,
+                },
+                k10: Words {
+                    a: 0x18e50c40,
+                    b: 0xad2e8910,
+                    c: 0x36572ab5,
+                    d: 0x1698527e,
+                },
+            },
+        },
+        whole: Words {
+            a: 0x90919c63,
+            b: 0xdc66fb31,
+            c: 0xfaf60611,
+            d: 0x37958b7a,
+        },
+        padded: Words {
+            a: 0x212338c7,
+            b: 0xb8cdf663,
+            c: 0xf5ec0c22,
+            d: 0x6f2b1673,
+        },
+    }
+}
