@@ -3,7 +3,7 @@
 use mathlib.Core.Path.{_≡_, _∙_, sym}
 use mathlib.Core.List.{List}
 use Prim.Native.Nat.{ℕ}
-use Rattle.engine.specs.Lengths.{Lent}
+use Rattle.arrival.specs.Lengths.{Lent}
 use Rattle.boundary.specs.Calls.{Left, lostOn, addOn, removeOn, keyOn, powerOnIn}
 use Rattle.boundary.specs.Frames.{FrameLeft, PlaceLeft, frameOn, placeOn}
 use Rattle.boundary.specs.Writers.{Target, hlendIn, allocationIn, xgemFrameIn}

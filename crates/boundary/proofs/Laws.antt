@@ -15,11 +15,11 @@ use Rattle.station.specs.declared.answers.Answer.{Answer}
 use Rattle.station.specs.declared.answers.Answer.the-variants.{Done, StateOutOfRange, BufferTooShort}
 use Rattle.station.specs.Answers.{answerNumber}
 use Rattle.host.specs.declared.Outcome.{Outcome}
-use Rattle.engine.specs.declared.arrival.Outcome as arrived
+use Rattle.arrival.specs.declared.Outcome as arrived
 use Rattle.engine.specs.declared.alone.StretchPlace.{StretchPlace}
-use Rattle.engine.specs.Lengths.{Lent}
-use Rattle.engine.specs.Frame as engine
-use Rattle.engine.specs.Frame.{frameLeft}
+use Rattle.arrival.specs.Lengths.{Lent}
+use Rattle.arrival.specs.Frame as engine
+use Rattle.arrival.specs.Frame.{frameLeft}
 use Rattle.engine.specs.Stretch.{stretchPlace}
 use Rattle.layout.specs.declared.StateRead.{StateRead}
 use Rattle.layout.specs.declared.Standing.{Standing}

@@ -10,11 +10,11 @@ use Rattle.framing.specs.Writes.{put}
 use Rattle.station.specs.declared.Station.{Station}
 use Rattle.station.specs.declared.answers.Answer.the-variants.{StateOutOfRange, BufferTooShort}
 use Rattle.station.specs.Answers.{answerNumber}
-use Rattle.engine.specs.declared.arrival.Outcome.{Outcome}
+use Rattle.arrival.specs.declared.Outcome.{Outcome}
 use Rattle.engine.specs.declared.alone.StretchPlace.{StretchPlace}
-use Rattle.engine.specs.Lengths.{Lent}
+use Rattle.arrival.specs.Lengths.{Lent}
 use Rattle.engine.specs.Frame as engine
-use Rattle.engine.specs.Frame.{frameLeft}
+use Rattle.arrival.specs.Frame.{frameLeft}
 use Rattle.engine.specs.Stretch.{stretchPlace}
 use Rattle.layout.specs.Layout.{decoded, stored}
 

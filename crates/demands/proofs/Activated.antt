@@ -42,9 +42,9 @@ use Rattle.effects.specs.Decisions.{assignOnuId, assignAllocId, isBroadcast, is
 use Rattle.effects.specs.Changes.{identify, range, applied}
 use Rattle.effects.specs.Acts.{act}
 use Rattle.activation.specs.Receiving.{acting, receive, messagesFrom, messagesIn, receiveAll}
-use Rattle.engine.specs.Lengths.{lengthFits, enough, buffersFit}
-use Rattle.engine.specs.Partitions.{messagesOf}
-use Rattle.engine.specs.Frame.{plannedIn, repliesIn, payloadIn, sentBy, next, done, handled, frameLeft}
+use Rattle.arrival.specs.Lengths.{lengthFits, enough, buffersFit}
+use Rattle.arrival.specs.Partitions.{messagesOf}
+use Rattle.arrival.specs.Frame.{plannedIn, repliesIn, payloadIn, sentBy, next, done, handled, frameLeft}
 use Rattle.engine.specs.Answers.{lostIn, Handled}
 use Rattle.demands.proofs.RefutingRuns.{serial, registration, memory, buffers, lent, Leads, led, searching, searching-in-range}
 

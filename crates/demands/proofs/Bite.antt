@@ -21,7 +21,7 @@ use Rattle.bwmap.specs.Laser.{Sending, opens, granted, sending, laser}
 use Rattle.conduct.proofs.InRange.{sound-in-range, power-on-sound}
 use Rattle.ledger.proofs.Runs.{ledger-exact}
 use Rattle.ledger.proofs.Plan.{always-ours}
-use Rattle.engine.specs.Frame.{Left, plannedIn, done, handled, frameLeft}
+use Rattle.arrival.specs.Frame.{Left, plannedIn, done, handled, frameLeft}
 use Rattle.demands.specs.Runs.{Call, frame, lost, addPort, removePort, giveKey, Standing, start, runOf}
 use Rattle.demands.specs.Demand1.{Demand1}
 use Rattle.demands.specs.Demand2.{Demand2}

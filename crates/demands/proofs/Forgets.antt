@@ -35,9 +35,9 @@ use Rattle.ledger.specs.Events.{stationOf}
 use Rattle.ledger.specs.Events as event
 use Rattle.host.specs.declared.Outcome.{Outcome}
 use Rattle.payload.specs.Frames.{parse}
-use Rattle.engine.specs.Lengths.{lengthFits, enough}
-use Rattle.engine.specs.Partitions.{mapOf}
-use Rattle.engine.specs.Frame.{Left, ownOf, plannedIn, repliesIn, payloadIn, sentBy, next, done, handled, frameLeft}
+use Rattle.arrival.specs.Lengths.{lengthFits, enough}
+use Rattle.arrival.specs.Partitions.{mapOf}
+use Rattle.arrival.specs.Frame.{Left, ownOf, plannedIn, repliesIn, payloadIn, sentBy, next, done, handled, frameLeft}
 use Rattle.engine.specs.Times.{lostLeft}
 use Rattle.engine.specs.Answers.{lostIn, Handled}
 use Rattle.engine.proofs.Table.{only}

@@ -30,9 +30,9 @@ use Rattle.host.specs.declared.Outcome.{Outcome}
 use Rattle.host.specs.Host.{found, outcome, answerToAdd, answerToRemove, answerToKey, afterAdd, afterRemove, afterKey}
 use Rattle.payload.specs.Frames.{parse}
 use Rattle.payload.specs.Stretch.{stretchOf}
-use Rattle.engine.specs.Lengths.{lengthFits}
-use Rattle.engine.specs.Partitions.{headerEnd, payloadOf}
-use Rattle.engine.specs.Frame.{isOperating}
+use Rattle.arrival.specs.Lengths.{lengthFits}
+use Rattle.arrival.specs.Partitions.{headerEnd, payloadOf}
+use Rattle.arrival.specs.Frame.{isOperating}
 use Rattle.engine.specs.Times.{lostLeft}
 use Rattle.engine.specs.declared.alone.StretchPlace.{StretchPlace}
 use Rattle.engine.specs.Stretch.{empty, answerIf, inFrame, placeIn, placeBy, stretchPlace}

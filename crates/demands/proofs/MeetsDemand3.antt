@@ -12,8 +12,8 @@ use Rattle.station.specs.Station.{powerOn}
 use Rattle.ledger.specs.Events.{stationOf}
 use Rattle.ledger.proofs.Runs.{ledger-exact}
 use Rattle.ledger.proofs.Plan.{always-ours, always-numbered}
-use Rattle.engine.specs.Partitions.{mapOf}
-use Rattle.engine.specs.Frame.{Left, frameLeft}
+use Rattle.arrival.specs.Partitions.{mapOf}
+use Rattle.arrival.specs.Frame.{Left, frameLeft}
 use Rattle.engine.proofs.Table.{table}
 use Rattle.demands.specs.Engine.{lingbarrow}
 use Rattle.demands.specs.Runs.{Call, Buffers, Standing, lend, start, runOf}

@@ -21,9 +21,9 @@ use Rattle.bwmap.proofs.Kept.{planned-ours, every-series-accounted}
 use Rattle.bwmap.proofs.ReadBack.{laser-obeys}
 use Rattle.ledger.specs.Events.{Event, stationOf}
 use Rattle.ledger.specs.Plan.{ownAt, Listed, Discovery, NumberOf}
-use Rattle.engine.specs.Lengths.{Lent}
-use Rattle.engine.specs.Partitions.{mapOf}
-use Rattle.engine.specs.Frame.{Left, plannedIn, done, handled, frameLeft}
+use Rattle.arrival.specs.Lengths.{Lent}
+use Rattle.arrival.specs.Partitions.{mapOf}
+use Rattle.arrival.specs.Frame.{Left, plannedIn, done, handled, frameLeft}
 use Rattle.engine.specs.Answers.{Handled, Row}
 use Rattle.engine.proofs.Table.{table}
 use Rattle.demands.specs.Demand3.{sent, Numbered, Planned, AllPlanned, Obeys}

@@ -33,9 +33,9 @@ use Rattle.bwmap.specs.Laser.{Sending, burstsOf}
 use Rattle.conduct.proofs.InRange.{sound-in-range, power-on-sound, enter-sound}
 use Rattle.ledger.specs.Events.{stationOf}
 use Rattle.host.specs.declared.Outcome.{Outcome}
-use Rattle.engine.specs.Lengths.{Lent, lengthFits, enough}
-use Rattle.engine.specs.Partitions.{mapOf}
-use Rattle.engine.specs.Frame.{Left, ownOf, isOperating, plannedIn, repliesIn, payloadIn, sentBy, next, done, handled, frameLeft}
+use Rattle.arrival.specs.Lengths.{Lent, lengthFits, enough}
+use Rattle.arrival.specs.Partitions.{mapOf}
+use Rattle.arrival.specs.Frame.{Left, ownOf, isOperating, plannedIn, repliesIn, payloadIn, sentBy, next, done, handled, frameLeft}
 use Rattle.engine.specs.Answers.{lostIn, Handled}
 use Rattle.engine.proofs.Table.{only}
 use Rattle.demands.specs.Runs.{Call, Buffers, frame, Standing, befell, lend, after, start, runOf}

@@ -20,9 +20,9 @@ use Rattle.conduct.proofs.InRange.{Sound, sound-in-range, power-on-sound}
 use Rattle.conduct.proofs.InRangeHost.{add-sound, remove-sound, key-sound}
 use Rattle.ledger.specs.Events.{Event, stationOf}
 use Rattle.ledger.proofs.Frames.{frame-left}
-use Rattle.engine.specs.Lengths.{Lent}
-use Rattle.engine.specs.Partitions.{messagesOf}
-use Rattle.engine.specs.Frame.{Left, isRanging, plannedIn, repliesIn, payloadIn, sentBy, next, done, handled, frameLeft}
+use Rattle.arrival.specs.Lengths.{Lent}
+use Rattle.arrival.specs.Partitions.{messagesOf}
+use Rattle.arrival.specs.Frame.{Left, isRanging, plannedIn, repliesIn, payloadIn, sentBy, next, done, handled, frameLeft}
 use Rattle.engine.specs.Times.{lostLeft}
 use Rattle.engine.specs.Answers.{Handled, Row}
 use Rattle.engine.proofs.Ranged.{frame-sound, lost-call-sound}

@@ -23,9 +23,9 @@ use Rattle.bwmap.specs.Upstream as upstream
 use Rattle.bwmap.proofs.Once.{times-apart, at-most-one}
 use Rattle.bwmap.proofs.ReadBack.{laser-obeys}
 use Rattle.conduct.proofs.InRange.{Sound}
-use Rattle.engine.specs.Lengths.{Lent}
-use Rattle.engine.specs.Partitions.{mapOf, messagesOf}
-use Rattle.engine.specs.Frame.{Left, isRanging, ownOf, plannedIn, repliesIn, payloadIn, sentBy as foundBy, next, done, handled, frameLeft}
+use Rattle.arrival.specs.Lengths.{Lent}
+use Rattle.arrival.specs.Partitions.{mapOf, messagesOf}
+use Rattle.arrival.specs.Frame.{Left, isRanging, ownOf, plannedIn, repliesIn, payloadIn, sentBy as foundBy, next, done, handled, frameLeft}
 use Rattle.engine.specs.Answers.{Handled, Row}
 use Rattle.engine.specs.Times.{lostLeft}
 use Rattle.engine.proofs.Ranged.{carried-low}

@@ -21,9 +21,9 @@ use Rattle.entries.specs.Standings.{standing, sorted, startUnfit, noRoom, conti
 use Rattle.bwmap.specs.Series.{Series, entryAt, standings, seriesOf, planned, judged, wordsOf}
 use Rattle.bwmap.specs.Promises.{Account}
 use Rattle.bwmap.specs.Laser.{burstsOf}
-use Rattle.engine.specs.Lengths.{Lent, lengthFits, enough}
-use Rattle.engine.specs.Partitions.{mapOf}
-use Rattle.engine.specs.Frame.{Left, ownOf, plannedIn, handled, frameLeft}
+use Rattle.arrival.specs.Lengths.{Lent, lengthFits, enough}
+use Rattle.arrival.specs.Partitions.{mapOf}
+use Rattle.arrival.specs.Frame.{Left, ownOf, plannedIn, handled, frameLeft}
 use Rattle.engine.specs.Times.{lostLeft}
 use Rattle.engine.specs.Answers.{lostIn, Handled}
 use Rattle.engine.proofs.Table.{only}

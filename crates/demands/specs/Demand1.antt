@@ -31,9 +31,9 @@ use Rattle.timing.specs.Timing.{lostTime}
 use Rattle.host.specs.declared.Outcome.{Outcome}
 use Rattle.host.specs.Host.{found}
 use Rattle.payload.specs.Frames.{parse}
-use Rattle.engine.specs.Lengths.{Lent, lengthFits}
-use Rattle.engine.specs.Partitions.{headerEnd, payloadOf}
-use Rattle.engine.specs.Frame.{isOperating}
+use Rattle.arrival.specs.Lengths.{Lent, lengthFits}
+use Rattle.arrival.specs.Partitions.{headerEnd, payloadOf}
+use Rattle.arrival.specs.Frame.{isOperating}
 use Rattle.engine.specs.Answers.{Row}
 use Rattle.engine.specs.declared.alone.StretchPlace.{StretchPlace}
 use Rattle.engine.specs.Stretch.{empty, placeIn}

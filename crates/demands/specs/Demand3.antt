@@ -26,9 +26,9 @@ use Rattle.bwmap.specs.Upstream.{Burst, takers}
 use Rattle.ledger.specs.Events.{Event, stationOf}
 use Rattle.ledger.specs.Promises.{Exact}
 use Rattle.ledger.specs.Plan.{ownAt, Listed, Discovery, OursAfter}
-use Rattle.engine.specs.Lengths.{Lent}
-use Rattle.engine.specs.Partitions.{mapOf}
-use Rattle.engine.specs.Frame.{Left}
+use Rattle.arrival.specs.Lengths.{Lent}
+use Rattle.arrival.specs.Partitions.{mapOf}
+use Rattle.arrival.specs.Frame.{Left}
 use Rattle.demands.specs.Engine.{Engine}
 use Rattle.demands.specs.Runs.{Call, frame, lost, addPort, removePort, giveKey, Buffers, Standing, lend, after, runOf, start}
 

@@ -12,8 +12,8 @@ use Rattle.station.specs.declared.Station.{Station}
 use Rattle.station.specs.Station as station
 use Rattle.host.specs.declared.Outcome.{Outcome}
 use Rattle.host.specs.Host.{afterAdd, afterRemove, afterKey}
-use Rattle.engine.specs.Lengths.{Lent}
-use Rattle.engine.specs.Frame.{Left, frameLeft}
+use Rattle.arrival.specs.Lengths.{Lent}
+use Rattle.arrival.specs.Frame.{Left, frameLeft}
 use Rattle.engine.specs.Times.{lostLeft}
 use Rattle.engine.specs.declared.alone.StretchPlace.{StretchPlace}
 use Rattle.engine.specs.Stretch.{stretchPlace}

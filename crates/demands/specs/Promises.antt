@@ -9,7 +9,7 @@ use Rattle.ploam.specs.Layout.{messageOctets}
 use Rattle.station.specs.declared.Station.{Station}
 use Rattle.station.specs.Limits.{registrationOctets}
 use Rattle.ranges.specs.Ranges.{inRange}
-use Rattle.engine.specs.Lengths.{Lent}
+use Rattle.arrival.specs.Lengths.{Lent}
 use Rattle.engine.specs.Alike.{AlikeFrames}
 use Rattle.engine.specs.Counts.{Counted}
 use Rattle.demands.specs.Engine.{Engine}

@@ -14,9 +14,9 @@ use Rattle.bwmap.specs.Series.{lastEnd, carriedOver}
 use Rattle.bwmap.specs.Plan.{messages}
 use Rattle.ledger.specs.Events.{Event, unread, portAdded, portRemoved, keyGiven, stationOf}
 use Rattle.ledger.specs.Events as event
-use Rattle.engine.specs.Lengths.{Lent}
-use Rattle.engine.specs.Partitions.{messagesOf}
-use Rattle.engine.specs.Frame.{isRanging, plannedIn, payloadIn}
+use Rattle.arrival.specs.Lengths.{Lent}
+use Rattle.arrival.specs.Partitions.{messagesOf}
+use Rattle.arrival.specs.Frame.{isRanging, plannedIn, payloadIn}
 use Rattle.demands.specs.Engine.{Engine}
 
 -- what a caller lends to one frame call beside the port memory

@@ -13,8 +13,8 @@ use Rattle.station.specs.declared.answers.Answer.the-variants.{StateOutOfRange}
 use Rattle.station.specs.Held.{noAllocs, withAllocs}
 use Rattle.station.specs.Station.{withLink}
 use Rattle.host.specs.declared.Outcome.{Outcome}
-use Rattle.engine.specs.Lengths.{Lent}
-use Rattle.engine.specs.Frame.{Left, refused, plannedIn, repliesIn, payloadIn, done, frameLeft}
+use Rattle.arrival.specs.Lengths.{Lent}
+use Rattle.arrival.specs.Frame.{Left, refused, plannedIn, repliesIn, payloadIn, done, frameLeft}
 use Rattle.engine.specs.Times.{lostLeft}
 use Rattle.demands.specs.Engine.{Engine, lingbarrow}
 

@@ -35,11 +35,11 @@ use Rattle.payload.proofs.Walks.{frame-inside, parse-done, parse-lost, parse-ne
 use Rattle.payload.proofs.Steps.{ready-less}
 use Rattle.payload.proofs.Fit.{ready}
 use Rattle.payload.proofs.Counts.{asked, counts-true}
-use Rattle.engine.specs.Lengths.{Lent, lengthFits, buffersFit}
-use Rattle.engine.specs.Partitions.{headerEnd, payloadOf}
-use Rattle.engine.specs.Frame.{Left, isOperating, refused, unread, plannedIn, repliesIn, payloadIn, done, handled, byHlend, frameLeft}
+use Rattle.arrival.specs.Lengths.{Lent, lengthFits, buffersFit}
+use Rattle.arrival.specs.Partitions.{headerEnd, payloadOf}
+use Rattle.arrival.specs.Frame.{Left, isOperating, refused, unread, plannedIn, repliesIn, payloadIn, done, handled, byHlend, frameLeft}
 use Rattle.engine.specs.Counts.{Counted}
-use Rattle.engine.proofs.Laws.{Room, room, partials-within}
+use Rattle.arrival.proofs.Laws.{Room, room, partials-within}
 
 -- ---- what the frames of a payload deliver is no more than the payload
 

@@ -6,10 +6,10 @@ use mathlib.Core.List.{List}
 use Rattle.ids.specs.declared.PortId.{PortId}
 use Rattle.station.specs.declared.Station.{Station}
 use Rattle.host.specs.declared.Outcome as host
-use Rattle.engine.specs.declared.arrival.Outcome.{Outcome}
+use Rattle.arrival.specs.declared.Outcome.{Outcome}
 use Rattle.engine.specs.declared.alone.StretchPlace.{StretchPlace}
-use Rattle.engine.specs.Lengths.{Lent}
-use Rattle.engine.specs.Frame.{Left, FrameLeaves}
+use Rattle.arrival.specs.Lengths.{Lent}
+use Rattle.arrival.specs.Frame.{Left, FrameLeaves}
 use Rattle.engine.specs.Times.{LostLeaves}
 use Rattle.engine.specs.Stretch.{PlaceIs, StretchIs}
 

@@ -24,9 +24,9 @@ use Rattle.payload.specs.Memory.{Receiver}
 use Rattle.payload.specs.Walk.{Walked, walkOf}
 use Rattle.payload.proofs.Isolation.{isolated}
 use Rattle.bwmap.specs.Series.{Series, plannedOf}
-use Rattle.engine.specs.Lengths.{Lent}
-use Rattle.engine.specs.Partitions.{hlendOctets, mapEnd, headerEnd, mapOf, messagesOf, payloadOf}
-use Rattle.engine.specs.Frame.{Left, isOperating, ownOf, plannedIn, repliesIn, payloadIn, sentBy, next, done, handled, byHlend, frameLeft}
+use Rattle.arrival.specs.Lengths.{Lent}
+use Rattle.arrival.specs.Partitions.{hlendOctets, mapEnd, headerEnd, mapOf, messagesOf, payloadOf}
+use Rattle.arrival.specs.Frame.{Left, isOperating, ownOf, plannedIn, repliesIn, payloadIn, sentBy, next, done, handled, byHlend, frameLeft}
 use Rattle.engine.specs.Alike.{AlikeFrames, equal, behind}
 
 -- a part of the front is a part of the whole

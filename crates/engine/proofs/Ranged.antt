@@ -31,9 +31,9 @@ use Rattle.conduct.proofs.InRangeMessages.{messages-sound, reply-sound}
 use Rattle.conduct.proofs.InRangeHost.{with-ports-sound}
 use Rattle.payload.specs.declared.walk.Delineation.the-variants.{Kept}
 use Rattle.payload.specs.Walk.{walkOf}
-use Rattle.engine.specs.Lengths.{Lent, lengthFits, buffersFit}
-use Rattle.engine.specs.Partitions.{headerEnd, mapOf, messagesOf, payloadOf}
-use Rattle.engine.specs.Frame.{Left, isOperating, isRanging, ownOf, refused, unread, plannedIn, repliesIn, payloadIn, sentBy, next, done, handled, byHlend, frameLeft}
+use Rattle.arrival.specs.Lengths.{Lent, lengthFits, buffersFit}
+use Rattle.arrival.specs.Partitions.{headerEnd, mapOf, messagesOf, payloadOf}
+use Rattle.arrival.specs.Frame.{Left, isOperating, isRanging, ownOf, refused, unread, plannedIn, repliesIn, payloadIn, sentBy, next, done, handled, byHlend, frameLeft}
 use Rattle.engine.specs.Times.{lostLeft}
 use Rattle.engine.proofs.Ports.{Fine, walk-fine}
 

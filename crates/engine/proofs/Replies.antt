@@ -30,10 +30,10 @@ use Rattle.activation.specs.declared.replying.Reply.the-variants.{Silent, Says}
 use Rattle.replies.specs.Replies.{keyOf, said, wrote, inPlace, repliesFrom}
 use Rattle.bwmap.specs.Plan.{messages}
 use Rattle.bwmap.proofs.Kept.{bursts-most}
-use Rattle.engine.specs.Lengths.{Lent, lengthFits, buffersFit}
-use Rattle.engine.specs.Partitions.{headerEnd, mapOf}
-use Rattle.engine.specs.Frame.{Left, ownOf, refused, unread, plannedIn, repliesIn, done, handled, byHlend, frameLeft}
-use Rattle.engine.proofs.Laws.{Room, room, messages-few}
+use Rattle.arrival.specs.Lengths.{Lent, lengthFits, buffersFit}
+use Rattle.arrival.specs.Partitions.{headerEnd, mapOf}
+use Rattle.arrival.specs.Frame.{Left, ownOf, refused, unread, plannedIn, repliesIn, done, handled, byHlend, frameLeft}
+use Rattle.arrival.proofs.Laws.{Room, room, messages-few}
 
 -- ---- a message has 48 octets
 

@@ -27,9 +27,9 @@ use Rattle.payload.specs.declared.alone.StretchPlace as found
 use Rattle.payload.specs.Frames.{Xgem, nextOf, parse}
 use Rattle.payload.specs.Memory.{after}
 use Rattle.payload.specs.Stretch.{noExtent, aloneAt, stretches, stretchOf, cutOut}
-use Rattle.engine.specs.Partitions.{headerEnd, payloadOf}
-use Rattle.engine.specs.Frame.{isOperating}
-use Rattle.engine.specs.Lengths.{lengthFits}
+use Rattle.arrival.specs.Partitions.{headerEnd, payloadOf}
+use Rattle.arrival.specs.Frame.{isOperating}
+use Rattle.arrival.specs.Lengths.{lengthFits}
 use Rattle.engine.specs.Stretch.{empty, answerIf, inFrame, placeIn, placeBy, stretchPlace, cut}
 use Rattle.engine.specs.declared.alone.StretchPlace.{StretchPlace}
 use Rattle.framing.specs.Reads.{Found, fields, unreadable, short, readHlend}

@@ -23,9 +23,9 @@ use Rattle.conduct.proofs.Valid.{both}
 use Rattle.payload.specs.declared.walk.Delineation.the-variants.{Kept}
 use Rattle.payload.specs.Frames.{parse}
 use Rattle.payload.specs.Walk.{walkOf, leftBy, delineationOf}
-use Rattle.engine.specs.Lengths.{Lent, lengthFits, buffersFit}
-use Rattle.engine.specs.Partitions.{headerEnd, payloadOf}
-use Rattle.engine.specs.Frame.{Left, isOperating, refused, unread, answerTo, payloadIn, done, handled, byHlend, frameLeft}
+use Rattle.arrival.specs.Lengths.{Lent, lengthFits, buffersFit}
+use Rattle.arrival.specs.Partitions.{headerEnd, payloadOf}
+use Rattle.arrival.specs.Frame.{Left, isOperating, refused, unread, answerTo, payloadIn, done, handled, byHlend, frameLeft}
 use Rattle.engine.specs.Answers.{Passed, lostIn, TooLong, Handled, Row}
 
 -- ---- the answer of a frame that is done

@@ -11,8 +11,8 @@ use Rattle.framing.specs.declared.hlend.Hlend.{Hlend}
 use Rattle.framing.specs.Reads.{fields, readHlend}
 use Rattle.station.specs.declared.Station.{Station}
 use Rattle.payload.specs.Alike.{Alike}
-use Rattle.engine.specs.Partitions.{headerEnd, payloadOf}
-use Rattle.engine.specs.Frame.{isOperating}
+use Rattle.arrival.specs.Partitions.{headerEnd, payloadOf}
+use Rattle.arrival.specs.Frame.{isOperating}
 
 -- equal; or as long, with the same header, and behind it payloads that are alike where they are walked
 pub data AlikeFrames (s : Station) (f : List ℕ) : List ℕ → Type 0 where

@@ -12,9 +12,9 @@ use Rattle.station.specs.declared.answers.Answer.{Answer}
 use Rattle.station.specs.declared.answers.Answer.the-variants.{Done, StateOutOfRange, FrameLengthUnfit, BufferTooShort, HlendUnreadable, HeaderTooLong, DelineationLost, PortOutOfRange, PortHeldOrNotHeld, SlotsTaken, KeyRefused, NotWritten}
 use Rattle.ranges.specs.Ranges.{inRange}
 use Rattle.payload.specs.Frames.{parse}
-use Rattle.engine.specs.Lengths.{Lent, lengthFits, buffersFit}
-use Rattle.engine.specs.Partitions.{headerEnd, payloadOf}
-use Rattle.engine.specs.Frame.{Left, isOperating, refused, unread, handled}
+use Rattle.arrival.specs.Lengths.{Lent, lengthFits, buffersFit}
+use Rattle.arrival.specs.Partitions.{headerEnd, payloadOf}
+use Rattle.arrival.specs.Frame.{Left, isOperating, refused, unread, handled}
 
 -- state, length and buffers are fit
 pub record Passed (s : Station) (f : List ℕ) (lent : Lent) : Type 0 where

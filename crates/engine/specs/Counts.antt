@@ -8,8 +8,8 @@ use lib.ListN.{length, drop}
 use Rattle.station.specs.declared.Station.{Station}
 use Rattle.replies.specs.Replies.{repliesFrom}
 use Rattle.bwmap.specs.Limits.{numbersARecord}
-use Rattle.engine.specs.Lengths.{Lent}
-use Rattle.engine.specs.Frame.{Left}
+use Rattle.arrival.specs.Lengths.{Lent}
+use Rattle.arrival.specs.Frame.{Left}
 
 pub record Counted (s : Station) (delay : ℕ) (lent : Lent) (left : Left) : Type 0 where
   -- so many records of four numbers, then the plan as it was

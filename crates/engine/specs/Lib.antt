@@ -1,7 +1,3 @@
-pub mod Limits
-pub mod Lengths
-pub mod Partitions
-pub mod Frame
 pub mod Answers
 pub mod Alike
 pub mod Counts

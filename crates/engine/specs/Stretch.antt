@@ -17,9 +17,9 @@ use Rattle.ranges.specs.Ranges.{inRange}
 use Rattle.payload.specs.declared.alone.StretchPlace as found
 use Rattle.payload.specs.Stretch.{stretchOf}
 use Rattle.engine.specs.declared.alone.StretchPlace.{StretchPlace}
-use Rattle.engine.specs.Lengths.{lengthFits}
-use Rattle.engine.specs.Frame.{isOperating}
-use Rattle.engine.specs.Partitions.{headerEnd, payloadOf}
+use Rattle.arrival.specs.Lengths.{lengthFits}
+use Rattle.arrival.specs.Frame.{isOperating}
+use Rattle.arrival.specs.Partitions.{headerEnd, payloadOf}
 
 abbrev pub empty : Answer → StretchPlace
 empty answer = record { answer = answer; at = 0; bytes = 0 }

@@ -2,9 +2,6 @@
 // every state, every frame and every lent buffer; what is unfit gets a number of the paper's table, and what is left after
 // each number is fixed.
 mod alone;
-mod arrival;
-mod lengths;
-mod partitions;
 mod times;
 
 // The station's state, by value; `Station::power_on` gives O1 with nothing held or carried, and has no refusal.

@@ -14,9 +14,9 @@ use Rattle.host.specs.declared.Outcome as host
 use Rattle.station.specs.Answers.{answerNumber}
 use Rattle.station.specs.States.{stateNumber}
 use Rattle.payload.specs.Memory.{put}
-use Rattle.engine.specs.declared.arrival.Outcome.{Outcome}
-use Rattle.engine.specs.Lengths.{Lent}
-use Rattle.engine.specs.Frame.{Left, frameLeft}
+use Rattle.arrival.specs.declared.Outcome.{Outcome}
+use Rattle.arrival.specs.Lengths.{Lent}
+use Rattle.arrival.specs.Frame.{Left, frameLeft}
 use Rattle.engine.specs.Times.{lostLeft}
 use Rattle.trace.specs.declared.records.Kind.{Kind}
 use Rattle.trace.specs.declared.records.Kind.the-variants.{Lost, Frame, Bad}

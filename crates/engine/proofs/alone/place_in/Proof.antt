@@ -5,9 +5,9 @@ use borrow.Author.Tests.{not-true, not-false, eq-eqb, ne-eqb}
 use denote.Ref.{now}
 use lib.ListN.{length}
 use Rattle.station.specs.declared.answers.Answer.{Answer}
-use Rattle.engine.specs.Partitions.{headerEnd}
+use Rattle.arrival.specs.Partitions.{headerEnd}
 use Rattle.engine.specs.Stretch.{empty, placeIn, inFrame}
-use Rattle.engine.proofs.Laws.{payload-part}
+use Rattle.arrival.proofs.Laws.{payload-part}
 use Rattle.engine.proofs.Stretches.{placed, placed-inside}
 use borrow.Author.Needs.{needs}
 use Rattle.engine.proofs.alone.place_in.Statement.{statement}
@@ -16,8 +16,8 @@ use Rattle.engine.proofs.alone.place_in.Reads as reads
 use Rattle.engine.proofs.alone.place_in.Lts as lts
 use Rattle.engine.proofs.alone.answer_if.Reads as answer-if-reads
 use Rattle.engine.proofs.alone.empty.Reads as empty-reads
-use Rattle.engine.proofs.arrival.is_operating.Reads as is-operating-reads
-use Rattle.engine.proofs.partitions.header_end.Reads as header-end-reads
+use Rattle.arrival.proofs.is_operating.Reads as is-operating-reads
+use Rattle.arrival.proofs.partitions.header_end.Reads as header-end-reads
 use Rattle.ids.proofs.OnuId.management_port.Reads as management-port-reads
 use Rattle.payload.proofs.stretch_place.Reads as stretch-place-reads
 

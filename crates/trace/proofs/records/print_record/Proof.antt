@@ -1,6 +1,6 @@
 use mathlib.Core.Path.{_∙_}
 use native.Mathlib.Omega.{arith}
-use Rattle.engine.specs.Lengths.{Lent}
+use Rattle.arrival.specs.Lengths.{Lent}
 use Rattle.trace.specs.Runs.{At}
 use Rattle.trace.proofs.Steps.{stopped-step, lost-step, frame-step, bad-step, frame-whole}
 use borrow.Author.Needs.{needs}

@@ -1,0 +1,181 @@
+use mathlib.Core.Path.{_≡_, _∙_, sym, ap}
+use Prim.Native.Nat.{ℕ, _-_}
+use mathlib.Core.List.{List}
+use native.Mathlib.Omega.{arith}
+use denote.Ref.{now}
+use lib.ListN.{length, take, drop, length-take, length-drop}
+use Rattle.bwmap.specs.Plan.{counted, written}
+use Rattle.bwmap.specs.Series.{plannedOf}
+use Rattle.arrival.specs.Lengths.{Lent}
+use Rattle.arrival.specs.Partitions.{headerEnd}
+use Rattle.arrival.specs.Frame.{ownOf, walkedFrom}
+use Rattle.arrival.proofs.Laws.{Room, room, map-part, messages-part, payload-part, from-stages}
+use borrow.Author.Needs.{needs}
+use Rattle.arrival.proofs.handle.Statement.{statement}
+use Rattle.arrival.proofs.handle.Tie as tie
+use Rattle.arrival.proofs.handle.Reads as reads
+use Rattle.arrival.proofs.handle.Lts as lts
+use Rattle.activation.proofs.receive_all_by.Reads as receive-all-by-reads
+use Rattle.arrival.proofs.answer_to.Reads as answer-to-reads
+use Rattle.arrival.proofs.is_ranging.Reads as is-ranging-reads
+use Rattle.arrival.proofs.plan_bursts.Reads as plan-bursts-reads
+use Rattle.arrival.proofs.receive_payload.Reads as receive-payload-reads
+use Rattle.arrival.proofs.partitions.header_end.Reads as header-end-reads
+use Rattle.arrival.proofs.partitions.map_end.Reads as map-end-reads
+use Rattle.replies.proofs.reply_all_by.Reads as reply-all-by-reads
+use Rattle.station.proofs.Station.with_carried.Reads as with-carried-reads
+use Rattle.station.proofs.Station.with_ports.Reads as with-ports-reads
+use Rattle.timing.proofs.frame_end.Reads as frame-end-reads
+
+abbrev buffers : tie.Start → Lent
+buffers c = record { memory = now (c .args .memory); plan = now (c .args .plan); replies = now (c .args .replies); deliveries = now (c .args .deliveries) }
+
+fitting : (c : tie.Start) → Room (length (now (c .args .frame))) (buffers c)
+fitting c = room (length (now (c .args .frame))) (buffers c) (c .pre .4)
+
+-- src/arrival.rt:179:9
+map-end-requires : tie.Need-map-end-requires
+map-end-requires c κs = search needs
+
+-- src/arrival.rt:180:9
+header-end-requires : tie.Need-header-end-requires
+header-end-requires c κs = search needs
+
+-- src/arrival.rt:185:9
+sub-plan-bursts : tie.Need-sub-plan-bursts
+sub-plan-bursts c = search needs
+
+-- src/arrival.rt:185:9
+part-plan-bursts-start : tie.Need-part-plan-bursts-start
+part-plan-bursts-start c = search needs
+
+-- src/arrival.rt:185:9
+part-plan-bursts-end : tie.Need-part-plan-bursts-end
+part-plan-bursts-end c = search needs
+
+-- src/arrival.rt:181:9
+plan-bursts-requires : tie.Need-plan-bursts-requires
+plan-bursts-requires c κs = ((c .before .before .before .before .before .before .before .before .before) .pre .0, fitting (c .before .before .before .before .before .before .before .before .before) .plan)
+
+-- src/arrival.rt:188:9
+reply-all-by-requires : tie.Need-reply-all-by-requires
+reply-all-by-requires c κs = search needs
+
+-- src/arrival.rt:189:55
+sub-receive-payload : tie.Need-sub-receive-payload
+sub-receive-payload c = omega (arith, c .before .before .before .before .before .before .before .before .before .header-end .ensures, (c .before .before .before .before .before .before .before .before .before .before .before .before .before .before .before .before) .pre .3)
+
+-- src/arrival.rt:189:55
+part-receive-payload-start : tie.Need-part-receive-payload-start
+part-receive-payload-start c = omega (arith, c .before .before .before .before .before .before .before .before .before .header-end .ensures, (c .before .before .before .before .before .before .before .before .before .before .before .before .before .before .before .before) .pre .3)
+
+-- src/arrival.rt:189:55
+part-receive-payload-end : tie.Need-part-receive-payload-end
+part-receive-payload-end c = search needs
+
+-- src/arrival.rt:189:9
+receive-payload-requires : tie.Need-receive-payload-requires
+receive-payload-requires c κs =
+    let f = now ((c .before .before .before .before .before .before .before .before .before .before .before .before .before .before .before .before .before .before .before) .args .frame) in
+    let e = c .before .before .before .before .before .before .before .before .before .before .before .before .header-end .result in
+    ((c .before .before .before .before .before .before .before .before .before .before .before .before .before .before .before .before .before .before .before) .pre .0, (c .before .before .before .before .before .before .before .before .before .before .before .before .before .before .before .before .before .before .before) .pre .2, fitting (c .before .before .before .before .before .before .before .before .before .before .before .before .before .before .before .before .before .before .before) .memory, omega (arith, fitting (c .before .before .before .before .before .before .before .before .before .before .before .before .before .before .before .before .before .before .before) .deliveries, length-take (length f - e) (drop e f), length-drop e f))
+
+-- src/arrival.rt:191:17
+with-ports-requires : tie.Need-with-ports-requires
+with-ports-requires c κs = search needs
+
+-- src/arrival.rt:191:9
+with-carried-requires : tie.Need-with-carried-requires
+with-carried-requires c κs = search needs
+
+-- src/arrival.rt:192:56
+sub-receive-all-by : tie.Need-sub-receive-all-by
+sub-receive-all-by c = omega (arith, c .before .before .before .before .before .before .before .before .before .before .before .before .before .before .before .before .before .before .before .before .before .map-end .ensures, c .before .before .before .before .before .before .before .before .before .before .before .before .before .before .before .before .before .before .before .before .header-end .ensures)
+
+-- src/arrival.rt:192:56
+part-receive-all-by-start : tie.Need-part-receive-all-by-start
+part-receive-all-by-start c = omega (arith, c .before .before .before .before .before .before .before .before .before .before .before .before .before .before .before .before .before .before .before .before .before .map-end .ensures, c .before .before .before .before .before .before .before .before .before .before .before .before .before .before .before .before .before .before .before .before .header-end .ensures)
+
+-- src/arrival.rt:192:56
+part-receive-all-by-end : tie.Need-part-receive-all-by-end
+part-receive-all-by-end c = omega (arith, c .before .before .before .before .before .before .before .before .before .before .before .before .before .before .before .before .before .before .before .before .before .map-end .ensures, c .before .before .before .before .before .before .before .before .before .before .before .before .before .before .before .before .before .before .before .before .header-end .ensures, (c .before .before .before .before .before .before .before .before .before .before .before .before .before .before .before .before .before .before .before .before .before .before .before .before .before .before .before) .pre .3)
+
+-- src/arrival.rt:192:9
+receive-all-by-requires : tie.Need-receive-all-by-requires
+receive-all-by-requires c κs = (c .before .before .before .before .before .before .before .before .before .before .before .before .before .before .before .before .before .before .before .before .before .before .before .before .before .before .before .before) .pre .1
+
+-- src/arrival.rt:194:42
+is-ranging-requires : tie.Need-is-ranging-requires
+is-ranging-requires c κs = search needs
+
+-- src/arrival.rt:194:9
+frame-end-requires : tie.Need-frame-end-requires
+frame-end-requires c κs = search needs
+
+-- src/arrival.rt:197:17
+answer-to-requires : tie.Need-answer-to-requires
+answer-to-requires c κs = search needs
+
+-- src/arrival.rt:163:1
+same-length : tie.Need-same-length
+same-length c = c .before .before .before .before .before .before .before .before .before .before .before .memory .given
+
+-- src/arrival.rt:163:1
+same-length-2 : tie.Need-same-length-2
+same-length-2 c = c .before .before .before .before .before .before .before .before .before .before .before .before .before .before .before .before .before .before .before .before .before .plan .given
+
+-- src/arrival.rt:163:1
+same-length-3 : tie.Need-same-length-3
+same-length-3 c = c .before .before .before .before .before .before .before .before .before .before .before .before .before .before .before .before .before .replies .given
+
+-- src/arrival.rt:163:1
+same-length-4 : tie.Need-same-length-4
+same-length-4 c = search needs
+
+-- src/arrival.rt:163:1
+returns : tie.Need-returns
+returns c =
+    let a = (c .before .before .before .before .before .before .before .before .before .before .before .before .before .before .before .before .before .before .before .before .before .before .before .before .before .before .before .before .before .before .before .before) .args in
+    let f = now (a .frame) in
+    let m = c .before .before .before .before .before .before .before .before .before .before .before .before .before .before .before .before .before .before .before .before .before .before .before .before .before .before .map-end .result in
+    let e = c .before .before .before .before .before .before .before .before .before .before .before .before .before .before .before .before .before .before .before .before .before .before .before .before .before .header-end .result in
+    let map = map-part (a .h) f m (c .before .before .before .before .before .before .before .before .before .before .before .before .before .before .before .before .before .before .before .before .before .before .before .before .before .before .map-end .ensures) in
+    let rest = payload-part (a .h) f e (c .before .before .before .before .before .before .before .before .before .before .before .before .before .before .before .before .before .before .before .before .before .before .before .before .before .header-end .ensures) in
+    let asked = messages-part (a .h) f m e (c .before .before .before .before .before .before .before .before .before .before .before .before .before .before .before .before .before .before .before .before .before .before .before .before .before .before .map-end .ensures) (c .before .before .before .before .before .before .before .before .before .before .before .before .before .before .before .before .before .before .before .before .before .before .before .before .before .header-end .ensures) in
+    from-stages (a .s) (a .h) f (a .delay) (buffers (c .before .before .before .before .before .before .before .before .before .before .before .before .before .before .before .before .before .before .before .before .before .before .before .before .before .before .before .before .before .before .before .before)) (c .before .before .before .before .before .before .before .before .before .before .before .before .before .before .before .before .before .before .before .before .before .before .plan-bursts .result) _ _ _ _ (c .before .before .before .before .before .before .before .before .before .before .before .before .before .before .before .before .before .before .reply-all-by .result) (c .before .before .before .before .before .before .before .before .before .before .before .before .receive-payload .result) (c .before .frame-end .result) (c .answer-to .result) (fitting (c .before .before .before .before .before .before .before .before .before .before .before .before .before .before .before .before .before .before .before .before .before .before .before .before .before .before .before .before .before .before .before .before))
+    (c .before .before .before .before .before .before .before .before .before .before .before .before .before .before .before .before .before .before .before .before .before .before .plan-bursts .ensures .0 ∙ ap (λ (x : List ℕ). counted (a .s .carried) (plannedOf (ownOf (a .s)) x (a .s .carried))) map)
+    (c .before .before .before .before .before .before .before .before .before .before .before .before .before .before .before .before .before .before .before .before .before .before .plan-bursts .ensures .1 ∙ ap (λ (x : List ℕ). written (plannedOf (ownOf (a .s)) x (a .s .carried)) (now (a .plan))) map)
+    (c .before .before .before .before .before .before .before .before .before .before .before .before .before .before .before .before .before .before .reply-all-by .ensures)
+    (c .before .before .before .before .before .before .before .before .before .before .before .before .receive-payload .ensures ∙ ap (λ (k : ℕ). walkedFrom (a .s) k (take (length f - e) (drop e f)) (now (a .memory)) (now (a .deliveries))) (c .before .before .before .before .before .before .before .before .before .before .before .before .before .before .before .before .before .before .before .before .before .before .before .before .before .header-end .ensures) ∙ ap (λ (x : List ℕ). walkedFrom (a .s) (headerEnd (a .h)) x (now (a .memory)) (now (a .deliveries))) rest)
+    (c .before .frame-end .ensures ∙ rw (c .before .before .before .receive-all-by .ensures, c .before .before .is-ranging .ensures, c .before .before .before .before .before .with-carried .ensures, c .before .before .before .before .before .before .with-ports .ensures, asked))
+    (c .answer-to .ensures)
+
+pub handle-spec : {M : Type 1} → statement M
+handle-spec =
+    tie.close
+    (tie.spec
+    map-end-requires
+    header-end-requires
+    sub-plan-bursts
+    part-plan-bursts-start
+    part-plan-bursts-end
+    plan-bursts-requires
+    reply-all-by-requires
+    sub-receive-payload
+    part-receive-payload-start
+    part-receive-payload-end
+    receive-payload-requires
+    with-ports-requires
+    with-carried-requires
+    sub-receive-all-by
+    part-receive-all-by-start
+    part-receive-all-by-end
+    receive-all-by-requires
+    is-ranging-requires
+    frame-end-requires
+    answer-to-requires
+    same-length
+    same-length-2
+    same-length-3
+    same-length-4
+    returns)

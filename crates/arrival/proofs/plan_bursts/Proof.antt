@@ -1,0 +1,33 @@
+use mathlib.Core.Path.{_∙_}
+use denote.Ref.{now}
+use Rattle.arrival.specs.Frame.{ownOf}
+use Rattle.arrival.proofs.Laws.{planned-fully}
+use borrow.Author.Needs.{needs}
+use Rattle.arrival.proofs.plan_bursts.Statement.{statement}
+use Rattle.arrival.proofs.plan_bursts.Tie as tie
+use Rattle.arrival.proofs.plan_bursts.Reads as reads
+use Rattle.arrival.proofs.plan_bursts.Lts as lts
+use Rattle.bwmap.proofs.plan_map_by.Reads as plan-map-by-reads
+use Rattle.arrival.proofs.plan_of.Reads as plan-of-reads
+
+-- src/arrival.rt:121:13
+plan-map-by-requires : tie.Need-plan-map-by-requires
+plan-map-by-requires c κs = search needs
+
+-- src/arrival.rt:121:5
+plan-of-requires : tie.Need-plan-of-requires
+plan-of-requires c κs = search needs
+
+-- src/arrival.rt:101:1
+same-length : tie.Need-same-length
+same-length c = search needs
+
+-- src/arrival.rt:101:1
+returns : tie.Need-returns
+returns c =
+    let a = (c .before .before .before .before .before .before .before .before .before .before) .args in
+    let p = planned-fully (ownOf (a .s)) (now (a .map)) (a .s .carried) (now (a .plan)) (c .before .before .before .plan-map-by .result) _ ((c .before .before .before .before .before .before .before .before .before .before) .pre .1) (c .before .before .before .plan-map-by .ensures) in
+    (c .plan-of .ensures ∙ p .0, p .1)
+
+pub plan-bursts-spec : {M : Type 1} → statement M
+plan-bursts-spec = tie.close (tie.spec plan-map-by-requires plan-of-requires same-length returns)
