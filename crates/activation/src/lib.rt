@@ -19,6 +19,7 @@ use cmac::Prepared;
 use effects::Change;
 use effects::Debt;
 use effects::Effect;
+use integrity::Direction;
 use ploam::MESSAGE_OCTETS;
 use ploam::Received;
 use station::Station;
@@ -30,7 +31,7 @@ fn genuine_now(t: &[u32; 1024], usual: Prepared, installed: Prepared, held: bool
     if held {
         return integrity::genuine(t, usual, installed, m);
     }
-    integrity::genuine(t, usual, usual, m)
+    integrity::mic_right(t, usual, Direction::Downstream, m)
 }
 
 fn ignored() -> Effect

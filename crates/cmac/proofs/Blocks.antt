@@ -2,12 +2,12 @@
 -- Assumes nothing.
 use mathlib.Core.Path.{_≡_, _∙_, refl, sym, ap, ap₂}
 use mathlib.Core.List.{List}
-use Prim.Native.Nat.{ℕ, _+_, _*_, _<_, _≤_}
+use Prim.Native.Nat.{ℕ, zero, suc, _+_, _*_, _<_, _≤_}
 use native.Mathlib.Omega.{arith}
 use native.Mathlib.Numerals.{add-one}
-use lib.ListN.{length}
+use lib.ListN.{length, replicate}
 use lib.Bits.{bitXor, xor-comm}
-use borrow.Author.Tests.{lt-ltb}
+use borrow.Author.Tests.{lt-ltb, le-ltb}
 use Rattle.aes.specs.Cipher.{at}
 use Rattle.aes.specs.Words.{joined, wordsOf, added, noWords}
 use Rattle.aes.specs.ByTable.{roundKeysBy, cipherBy}
@@ -15,8 +15,8 @@ use Rattle.aes.specs.declared.RoundKeys.{RoundKeys}
 use Rattle.aes.specs.declared.Words.{Words}
 use Rattle.aes.proofs.Blocks.{words}
 use Rattle.aes.proofs.Xor.{xor-assoc}
-use Rattle.cmac.specs.Mac.{paddedAt, blockAt}
-use Rattle.cmac.specs.ByTable.{wordAt, chainedBy, doubledWords, preparedBy}
+use Rattle.cmac.specs.Mac.{paddedAt, blockAt, before}
+use Rattle.cmac.specs.ByTable.{wordAt, chainedBy, lastBlockBy, blockBy, tagBy, doubledWords, preparedBy}
 use Rattle.cmac.specs.declared.Prepared.{Prepared}
 
 joined-of : {a b c d e f g h : ℕ} → a ≡ e → b ≡ f → c ≡ g → d ≡ h → joined a b c d ≡ joined e f g h
@@ -67,10 +67,43 @@ pub subkey-first : (x k b : Words) → added (added x k) b ≡ added x (added b 
 subkey-first x k b =
     words (turn (x .a) (k .a) (b .a)) (turn (x .b) (k .b) (b .b)) (turn (x .c) (k .c) (b .c)) (turn (x .d) (k .d) (b .d))
 
-pub next-chained : (t : List ℕ) (ks : RoundKeys) (m : List ℕ) (i : ℕ)
-    → chainedBy t ks m (i + 1) ≡ cipherBy t ks (added (chainedBy t ks m i) (wordsOf (blockAt m (i * 16))))
-unfolding chainedBy
-next-chained t ks m i = rw add-one
+-- X after the first i blocks, the last one among them
+unfoldable pub reached : List ℕ → Prepared → List ℕ → ℕ → Words
+reached t p m zero = noWords
+reached t p m (suc i) = cipherBy t (p .keys) (added (reached t p m i) (blockBy p m i))
+
+pub next-reached : (t : List ℕ) (p : Prepared) (m : List ℕ) (i : ℕ)
+    → reached t p m (i + 1) ≡ cipherBy t (p .keys) (added (reached t p m i) (blockBy p m i))
+unfolding reached
+next-reached t p m i = rw add-one
+
+inner-block : (p : Prepared) (m : List ℕ) (i : ℕ) → i < before m → blockBy p m i ≡ wordsOf (blockAt m (i * 16))
+unfolding blockBy
+inner-block p m i h = simp (lt-ltb i (before m) h)
+
+last-block : (p : Prepared) (m : List ℕ) → blockBy p m (before m) ≡ lastBlockBy p m (before m * 16)
+unfolding blockBy
+last-block p m = simp (le-ltb (before m) (before m) (omega arith))
+
+reached-before : (t : List ℕ) (p : Prepared) (m : List ℕ) (i : ℕ) → i ≤ before m
+    → reached t p m i ≡ chainedBy t (p .keys) m i
+unfolding reached chainedBy
+reached-before t p m zero h = refl
+reached-before t p m (suc i) h =
+    ap (cipherBy t (p .keys)) (ap₂ added (reached-before t p m i (omega arith)) (inner-block p m i (omega arith)))
+
+-- after all of them it is the tag
+pub reached-all : (t : List ℕ) (p : Prepared) (m : List ℕ) → reached t p m (before m + 1) ≡ tagBy t p m
+unfolding tagBy
+reached-all t p m =
+    next-reached t p m (before m)
+    ∙ ap (cipherBy t (p .keys)) (ap₂ added (reached-before t p m (before m) (omega arith)) (last-block p m))
+
+-- a block of zeros as a message, with no subkeys, is enciphered as it stands
+pub zeros-tag : (t : List ℕ) (ks : RoundKeys)
+    → tagBy t (record { keys = ks; whole = noWords; padded = noWords }) (replicate 16 0) ≡ cipherBy t ks noWords
+unfolding tagBy chainedBy lastBlockBy blockAt paddedAt before
+zeros-tag t ks = refl
 
 pub prepared-of : (t : List ℕ) (k : Words) (ks : RoundKeys) (l k1 k2 : Words) → ks ≡ roundKeysBy t k → l ≡ cipherBy t ks noWords
     → k1 ≡ doubledWords l → k2 ≡ doubledWords k1

@@ -6,7 +6,7 @@ use mathlib.Core.Bool.{cond}
 use mathlib.Core.Path.{_≡_}
 use mathlib.Core.List.{List}
 use lib.ListN.{length, take}
-use lib.Dec.{eqb}
+use lib.Dec.{eqb, ltb}
 use lib.Bits.{bitXor}
 use Rattle.aes.specs.Words.{joined, octetsOf, wordsOf, added, noWords, Octets}
 use Rattle.aes.specs.ByTable.{roundKeysBy, cipherBy}
@@ -53,6 +53,10 @@ chainedBy t ks m (suc i) = cipherBy t ks (added (chainedBy t ks m i) (wordsOf (b
 
 unfoldable pub lastBlockBy : Prepared → List ℕ → ℕ → Words
 lastBlockBy p m j = added (wordsOf (blockAt m j)) (cond (eqb (length m) (j + 16)) (p .whole) (p .padded))
+
+-- block i as it is enciphered: the last one with its subkey
+unfoldable pub blockBy : Prepared → List ℕ → ℕ → Words
+blockBy p m i = cond (ltb i (before m)) (wordsOf (blockAt m (i * 16))) (lastBlockBy p m (i * 16))
 
 unfoldable pub tagBy : List ℕ → Prepared → List ℕ → Words
 tagBy t p m =

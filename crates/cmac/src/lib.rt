@@ -4,7 +4,7 @@ ghost use Prim.Native.Nat.{_+_, _-_, _*_, _/_, _<_, _≤_, _^_};
 ghost use lib.ListN.{length};
 ghost use Rattle.aes.specs.Words.{wordsOf, added};
 ghost use Rattle.cmac.specs.Mac.{paddedAt, blockAt, cmac};
-ghost use Rattle.cmac.specs.ByTable.{shiftedWord, lastWord, doubledWords, Ready, wordAt, lastBlockBy, tagBy, macBy, mac64By};
+ghost use Rattle.cmac.specs.ByTable.{shiftedWord, lastWord, doubledWords, Ready, wordAt, lastBlockBy, blockBy, tagBy, macBy, mac64By};
 use aes::RoundKeys;
 use aes::Words;
 
@@ -14,6 +14,13 @@ pub struct Prepared {
     pub whole: Words,
     pub padded: Words,
 }
+
+const NO_WORDS: Words = Words {
+    a: 0,
+    b: 0,
+    c: 0,
+    d: 0,
+};
 
 // RFC 4493, 2.3: what is added where a 1 falls out of the shift.
 const RB: u32 = 0x87;
@@ -42,25 +49,6 @@ fn doubled(w: Words) -> Words
         b: shifted(w.b, w.c),
         c: shifted(w.c, w.d),
         d: last_shifted(w.d, w.a),
-    }
-}
-
-pub fn prepare(t: &[u32; 1024], key: [u8; 16]) -> Prepared
-    ensures { λ r. ⌜ Ready (now (t .entry)) key r ⌝ }
-{
-    let all = aes::expand(t, aes::load(key));
-    let zero = Words {
-        a: 0,
-        b: 0,
-        c: 0,
-        d: 0,
-    };
-    let whole = doubled(aes::encipher(t, all.first, all.last, zero));
-    let padded = doubled(whole);
-    Prepared {
-        keys: all,
-        whole: whole,
-        padded: padded,
     }
 }
 
@@ -151,6 +139,19 @@ fn add_last(key: Prepared, x: Words, m: &[u8], j: usize) -> Words
     }
 }
 
+fn add_next(key: Prepared, x: Words, m: &[u8], i: usize, n: usize) -> Words
+    requires { ⌜ (i ≤ n) × (n ≡ (length (now m) - 1) / 16) ⌝ }
+    ensures { λ r. ⌜ r ≡ added x (blockBy key (now (m .entry)) i) ⌝ }
+{
+    if i < n {
+        add_whole(x, m, i * 16)
+    } else {
+        add_last(key, x, m, i * 16)
+    }
+}
+
+// Every block is enciphered at one place of the code: the compiler merges the cipher into the loop, and what one block gives
+// goes to the next in registers.
 fn tag(t: &[u32; 1024], key: Prepared, m: &[u8]) -> Words
     ensures { λ r. ⌜ r ≡ tagBy (now (t .entry)) key (now (m .entry)) ⌝ }
 {
@@ -158,19 +159,33 @@ fn tag(t: &[u32; 1024], key: Prepared, m: &[u8]) -> Words
     let first = ks.first;
     let last = ks.last;
     let n = blocks_before(m.len());
-    let mut x = Words {
-        a: 0,
-        b: 0,
-        c: 0,
-        d: 0,
-    };
+    let mut x = NO_WORDS;
     let mut i: usize = 0;
-    while i < n {
-        let next = aes::encipher(t, first, last, add_whole(x, m, i * 16));
+    while i <= n {
+        let next = aes::encipher(t, first, last, add_next(key, x, m, i, n));
         x = next;
         i += 1;
     }
-    aes::encipher(t, first, last, add_last(key, x, m, n * 16))
+    x
+}
+
+// A block of zeros is enciphered as a message with no subkeys, so that it takes no second place of the code.
+pub fn prepare(t: &[u32; 1024], key: [u8; 16]) -> Prepared
+    ensures { λ r. ⌜ Ready (now (t .entry)) key r ⌝ }
+{
+    let all = aes::expand(t, aes::load(key));
+    let bare = Prepared {
+        keys: all,
+        whole: NO_WORDS,
+        padded: NO_WORDS,
+    };
+    let whole = doubled(tag(t, bare, &[0u8; 16]));
+    let padded = doubled(whole);
+    Prepared {
+        keys: all,
+        whole: whole,
+        padded: padded,
+    }
 }
 
 pub fn mac(t: &[u32; 1024], key: Prepared, m: &[u8]) -> [u8; 16]

@@ -11,6 +11,7 @@ use Rattle.aes.specs.Words.{wordsOf, Octets}
 use Rattle.aes.specs.MixTable.{mixTable}
 use Rattle.aes.proofs.Octets.{octets-nil, octets-cons}
 use Rattle.cmac.specs.ByTable.{preparedBy}
+use Rattle.cmac.specs.declared.Prepared.{Prepared}
 use Rattle.cmac.proofs.Macs.{mac64-by-mix-table}
 use Rattle.ploam.specs.Layout.{messageOctets, coveredOctets, addressOf, typeOf, micField}
 use Rattle.integrity.specs.Integrity.{directionCode, covered, same, micRight, defaultKey, byDefault, genuine, micRightBy, genuineBy}
@@ -55,3 +56,13 @@ pub genuine-by-mix-table : (key m : List ℕ) → Octets key → length key ≡ 
     → genuineBy mixTable (preparedBy mixTable (wordsOf defaultKey)) (preparedBy mixTable (wordsOf key)) m ≡ genuine key m
 unfolding genuineBy genuine
 genuine-by-mix-table key m ok h om = chosen (byDefault Downstream (addressOf m) (typeOf m)) key m ok h om
+
+either : (b : Bool) (p : Prepared) → cond b p p ≡ p
+either true p = refl
+either false p = refl
+
+-- whoever gives one key for both checks by that key, whichever the message asks for
+pub one-key : (t : List ℕ) (p : Prepared) (m : List ℕ) → genuineBy t p p m ≡ micRightBy t p Downstream m
+unfolding genuineBy
+one-key t p m =
+    ap (λ (k : Prepared). micRightBy t k Downstream m) (either (byDefault Downstream (addressOf m) (typeOf m)) p)

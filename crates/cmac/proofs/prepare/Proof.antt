@@ -1,11 +1,11 @@
 -- `cmac::prepare` meets its contract.
 -- Assumes nothing.
-use denote.Ref.{now}
-use Rattle.cmac.specs.ByTable.{preparedBy}
-use Rattle.cmac.proofs.Blocks.{prepared-of}
 use mathlib.Core.Path.{_∙_, ap, subst}
+use denote.Ref.{now}
 use Rattle.aes.specs.Words.{Octets}
 use Rattle.aes.proofs.Octets.{octets-octets}
+use Rattle.cmac.specs.ByTable.{preparedBy}
+use Rattle.cmac.proofs.Blocks.{zeros-tag, prepared-of}
 use borrow.Author.Needs.{needs}
 use Rattle.cmac.proofs.prepare.Statement.{statement}
 use Rattle.cmac.proofs.prepare.Tie as tie
@@ -16,8 +16,11 @@ load-requires c κs = search needs
 expand-requires : tie.Need-expand-requires
 expand-requires c κs = search needs
 
-encipher-requires : tie.Need-encipher-requires
-encipher-requires c κs = search needs
+slice-aggregate-tag : tie.Need-slice-aggregate-tag
+slice-aggregate-tag c = search needs
+
+tag-requires : tie.Need-tag-requires
+tag-requires c κs = search needs
 
 doubled-requires : tie.Need-doubled-requires
 doubled-requires c κs = search needs
@@ -27,15 +30,16 @@ doubled-requires-2 c κs = search needs
 
 returns : tie.Need-returns
 returns c =
-    let load = c .before .before .before .before .load in
-    let args = c .before .before .before .before .before .args in
+    let at = c .before .before .before .before in
+    let load = at .before .load in
+    let t = now (at .before .before .args .t) in
+    let ks = at .expand .result in
     record {
       made =
-          prepared-of (now (args .t)) (load .result) (c .before .before .before .expand .result)
-          (c .before .before .encipher .result) (c .before .doubled .result) (c .doubled2 .result)
-          (c .before .before .before .expand .ensures) (c .before .before .encipher .ensures) (c .before .doubled .ensures)
+          prepared-of t (load .result) ks (c .before .before .tag .result) (c .before .doubled .result) (c .doubled2 .result)
+          (at .expand .ensures) (c .before .before .tag .ensures ∙ zeros-tag t ks) (c .before .doubled .ensures)
           (c .doubled2 .ensures)
-          ∙ ap (preparedBy (now (args .t))) (load .ensures .made);
+          ∙ ap (preparedBy t) (load .ensures .made);
       octets = subst Octets (load .ensures .back) (octets-octets (load .result));
     }
 
@@ -45,7 +49,8 @@ prepare-spec =
     (tie.spec
     load-requires
     expand-requires
-    encipher-requires
+    slice-aggregate-tag
+    tag-requires
     doubled-requires
     doubled-requires-2
     returns)
