@@ -12,8 +12,8 @@ use lib.Seq.{take-at, drop-at, take-all}
 use borrow.Author.Tests.{le-leb}
 use Rattle.hec.specs.Reads.{word}
 use Rattle.hec.proofs.Compute.{computed32}
-use Rattle.hec.proofs.SyndromeRule.{syndromes}
-use Rattle.hec.proofs.FlipRule.{flips}
+use Rattle.bch.proofs.SyndromeRule.{syndromes}
+use Rattle.bch.proofs.FlipRule.{flips}
 use Rattle.framing.specs.declared.hlend.Hlend.{Hlend}
 use Rattle.framing.specs.Layouts.{hlendOf}
 use Rattle.framing.specs.Reads.{fields, taken, readHlend}

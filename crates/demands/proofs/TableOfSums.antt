@@ -5,8 +5,8 @@ use Prim.Native.Nat.{ℕ}
 use lib.Dec.{lit<}
 use Rattle.hec.specs.Reads.{Reading, word, unreadable}
 use Rattle.hec.proofs.Compute.{computed32}
-use Rattle.hec.proofs.SyndromeRule.{syndromes}
-use Rattle.hec.proofs.FlipRule.{flips}
+use Rattle.bch.proofs.SyndromeRule.{syndromes}
+use Rattle.bch.proofs.FlipRule.{flips}
 use Rattle.framing.specs.Layouts.{hlendOf}
 use Rattle.framing.specs.Reads.{taken}
 use Rattle.bwmap.proofs.Sums.{sum-8, sum-9, sum-10, sum-11}

@@ -316,8 +316,8 @@ pub fn frame(
     ) {
         return without(Answer::BufferTooShort, s);
     }
-    let syndromes = hec::syndromes::table();
-    let flips = hec::flips::table();
+    let syndromes = bch::syndromes::table();
+    let flips = bch::flips::table();
     let mix = aes::table::MIX;
     by_hlend(
         &syndromes,

@@ -12,8 +12,8 @@ pub use station::Station;
 // A frame has arrived: the plan of upstream bursts, the replies, the SDUs and the next state. Answers 0 to 6.
 pub use arrival::Outcome;
 pub use arrival::frame;
-// The same by lent tables, for a program in Rattle that makes many calls: it names `hec::syndromes::table()`,
-// `hec::flips::table()` and `aes::table::MIX` once. No caller from C sees it.
+// The same by lent tables, for a program in Rattle that makes many calls: it names `bch::syndromes::table()`,
+// `bch::flips::table()` and `aes::table::MIX` once. No caller from C sees it.
 pub use arrival::frame_by;
 // No frame has arrived: the synchroniser reports LODS. Answers 0 or 1.
 pub use times::lost;

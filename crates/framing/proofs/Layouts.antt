@@ -10,9 +10,9 @@ use lib.Dec.{eqb, ltb, lit≤}
 use lib.Pow.{shr-shr, split}
 use Rattle.ids.specs.declared.AllocId.{AllocId}
 use Rattle.ids.specs.declared.PortId.{PortId}
-use Rattle.hec.specs.Code.{TrueWord}
+use Rattle.bch.specs.Code.{TrueWord}
 use Rattle.hec.specs.Writes.{Written, protected}
-use Rattle.hec.proofs.Both.{and-left, and-right}
+use Rattle.bch.proofs.Both.{and-left, and-right}
 use Rattle.hec.proofs.Protected.{protected-written, is-protected}
 use Rattle.framing.specs.Layouts.{field, flag, bit, hlendOf, hlendFits, hlendWord, allocationOf, allocationFits, allocationBits, allocationWord, xgemOf, xgemFits, xgemBits, xgemWord, behind}
 use Rattle.framing.specs.declared.hlend.Hlend.{Hlend}

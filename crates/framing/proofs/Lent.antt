@@ -9,7 +9,8 @@ use lib.Dec.{leb}
 use lib.ListN.{length, getD, take}
 use lib.Seq.{length-take-le}
 use Rattle.hec.specs.Reads.{Reading, reading}
-use Rattle.hec.specs.Lent.{Syndromes, Flips, readingBy, sent}
+use Rattle.bch.specs.Tables.{Syndromes, Flips}
+use Rattle.hec.specs.Lent.{readingBy, sent}
 use Rattle.hec.proofs.LentReads.{lent32}
 use Rattle.framing.specs.Octets.{value}
 use Rattle.framing.specs.Layouts.{hlendOf}

@@ -9,12 +9,12 @@ use native.Mathlib.Omega.{arith}
 use borrow.Author.Tests.{le-leb}
 use lib.ListN.{length, take, drop, replicate, take-append-drop, length-append, length-take, length-drop, length-replicate}
 use lib.Seq.{take-at, drop-at, length-take-le, drop-drop}
-use Rattle.hec.specs.Code.{TrueWord, distance}
+use Rattle.bch.specs.Code.{TrueWord, distance}
 use Rattle.hec.specs.Reads.{word, reading}
 use Rattle.hec.specs.Writes.{protected}
 use Rattle.hec.proofs.Words.{mends, undamaged}
 use Rattle.hec.proofs.Nearest.{reading-reads}
-use Rattle.hec.proofs.SyndromeRule.{octet-power}
+use Rattle.bch.proofs.SyndromeRule.{octet-power}
 use Rattle.framing.specs.Octets.{value, octets}
 use Rattle.framing.specs.Layouts.{hlendOf, hlendFits, hlendWord, allocationOf, allocationFits, allocationWord, xgemOf, xgemFits, xgemWord, payloadSize}
 use Rattle.framing.specs.Reads.{Found, fields, taken, readAs, readHlend, readAllocation, readXgem}

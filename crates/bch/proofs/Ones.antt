@@ -8,7 +8,7 @@ use lib.Arith.{bin-ind, lt-one, digits-div, digits-mod}
 use lib.Pow.{shr-lt}
 use lib.Bits.{bitXor, bitAnd, differ, xor-step, and-step}
 use lib.Count.{ones, onesIn, ones-step, ones-ones, ones-cat}
-use Rattle.hec.proofs.Xor.{bit, xor-half, xor-odd}
+use Rattle.bch.proofs.Xor.{bit, xor-half, xor-odd}
 
 pub half-lt : {f : ℕ} (k : ℕ) → f < 2 ^ suc k → f / 2 < 2 ^ k
 half-lt {f} k h = shr-lt k 1 (subst (λ (x : ℕ). f < 2 ^ x) (sym (add-one k)) h)

@@ -8,10 +8,10 @@ use borrow.Author.Tests.{lt-ltb}
 use lib.Arith.{lt-one, digits-lt}
 use lib.Pow.{pow-pos, pow-lt}
 use lib.Bits.{bitXor, xor-shifted, xor-comm}
-use Rattle.hec.specs.Code.{double, place, remainderFrom, remainder}
-use Rattle.hec.proofs.Xor.{bit}
-use Rattle.hec.proofs.Ones.{half-lt}
-use Rattle.hec.proofs.Linear.{rem-zero}
+use Rattle.bch.specs.Code.{double, place, remainderFrom, remainder}
+use Rattle.bch.proofs.Xor.{bit}
+use Rattle.bch.proofs.Ones.{half-lt}
+use Rattle.bch.proofs.Linear.{rem-zero}
 
 place-low : (j : ℕ) → j < 12 → place j ≡ 2 ^ j
 unfolding place

@@ -6,8 +6,8 @@ use lib.Bits.{bitXor, differ, xor-zero-r}
 use native.Mathlib.Nat.{zero-mul}
 use native.Mathlib.Numerals.{add-one}
 use native.Mathlib.Omega.{arith}
-use Rattle.hec.specs.Code.{remainderFrom, double, place}
-use Rattle.hec.proofs.Xor.{bit, xor-half, xor-odd, xor-assoc, xor-four, bit-times}
+use Rattle.bch.specs.Code.{remainderFrom, double, place}
+use Rattle.bch.proofs.Xor.{bit, xor-half, xor-odd, xor-assoc, xor-four, bit-times}
 
 pub rem-zero : (n p : ℕ) → remainderFrom n p 0 ≡ 0
 unfolding remainderFrom

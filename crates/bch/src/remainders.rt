@@ -1,6 +1,6 @@
 // Table A.1 from its low end: the check value of each of the 63 places. Entry k is the remainder of x^k, so each entry
 // is the one before it, doubled. Reading and writing both go by this table.
-ghost use Rattle.hec.specs.Lent.{Remainders};
+ghost use Rattle.bch.specs.Tables.{Remainders};
 
 const REMAINDERS: [u16; 63] = [
     0x001,

@@ -1,27 +1,27 @@
 -- The rule of the table of syndromes, by one test that antt computes: in each octet's part the upper half is the lower one
--- plus the syndrome of one bit, and so on down. And the sum over a word's octets is its syndrome.
+-- plus the syndrome of one bit, and so on down.
 -- Assumes nothing.
 use mathlib.Core.Path.{_≡_, refl, sym, ap, ap₂, _∙_, subst}
 use mathlib.Core.Bool.{Bool, true, false, _&&_}
 use mathlib.Core.List.{List, [], _∷_}
 use Prim.Native.Nat.{ℕ, zero, suc, _+_, _-_, _*_, _/_, _%_, _^_, _≤_, _<_}
-use native.Mathlib.Nat.{zero-mul, one-mul, add-mul, mul-assoc, mul-comm, mul-one, add-zero, zero-add, add-suc, suc-add, add-assoc, pow-suc, le-of-suc-le-suc, not-suc-le-zero, lt-of-lt-of-le}
+use native.Mathlib.Nat.{zero-mul, one-mul, add-mul, mul-comm, add-zero, zero-add, add-suc, suc-add, add-assoc, pow-suc, le-of-suc-le-suc, not-suc-le-zero, lt-of-lt-of-le}
 use native.Mathlib.Decide.{decLt}
 use native.Mathlib.Omega.{arith}
 use lib.Arith.{lt-one, digits-lt}
 use lib.Pow.{pow-pos, pow-add}
-use lib.Bits.{bitXor, xor-shifted, xor-comm}
+use lib.Bits.{bitXor, xor-shifted}
 use lib.Count.{ones, ones-cat, ones-ones}
 use lib.Dec.{T, eqb, eqb→eq}
 use lib.ListN.{length, getD, take, drop}
 use lib.Seq.{getD-take, getD-drop}
-use Rattle.hec.specs.Code.{place, remainder}
-use Rattle.hec.specs.Lent.{syndrome, Syndromes, syndromeBy}
-use Rattle.hec.proofs.Both.{left, right}
-use Rattle.hec.proofs.RemainderRule.{remainders, rule as remainder-rule}
-use Rattle.hec.proofs.Patterns.{rem-one}
-use Rattle.hec.proofs.Linear.{rem-zero}
-use Rattle.hec.proofs.Syndrome.{syndrome-xor, syndrome-zero}
+use Rattle.bch.specs.Code.{place, remainder}
+use Rattle.bch.specs.Tables.{syndrome, Syndromes}
+use Rattle.bch.proofs.Both.{left, right}
+use Rattle.bch.proofs.RemainderRule.{remainders, rule as remainder-rule}
+use Rattle.bch.proofs.Patterns.{rem-one}
+use Rattle.bch.proofs.Linear.{rem-zero}
+use Rattle.bch.proofs.Syndrome.{syndrome-xor, syndrome-zero}
 
 -- the syndrome of bit k of a word
 bitSyndrome : ℕ → ℕ
@@ -62,7 +62,7 @@ unfolding shifted bitSyndrome
 spread zero k xs = eqb (getD xs 0 0) 0
 spread (suc n) k xs = spread n k xs && (eqb (length (take (2 ^ n) xs)) (2 ^ n) && shifted (bitSyndrome (n + k)) (take (2 ^ n) xs) (drop (2 ^ n) xs))
 
-mul-lt : (a b m : ℕ) → a < b → zero < m → a * m < b * m
+pub mul-lt : (a b m : ℕ) → a < b → zero < m → a * m < b * m
 mul-lt a b m h p = omega (arith, digits-lt h p)
 
 spread-at : (n k : ℕ) (xs : List ℕ) → n + k ≤ 64 → T (spread n k xs) → (v : ℕ) → v < 2 ^ n → getD xs v 0 ≡ syndrome (v * 2 ^ k)
@@ -267,34 +267,3 @@ pub rule : Syndromes syndromes
 rule o v ho hv =
     parts-at 8 0 syndromes (omega arith) passed o v ho hv
     ∙ ap (λ (x : ℕ). syndrome (v * x)) (ap (λ (x : ℕ). 2 ^ (x * 8)) (zero-add o) ∙ octet-power o)
-
--- the sum over the octets of a word: n + 1 of them are left, from octet o
-octets : (t : List ℕ) → Syndromes t → (n o w : ℕ) → suc n + o ≤ 8 → w < 256 ^ suc n → syndromeBy t (suc n) (o * 256) w ≡ syndrome (w * 256 ^ o)
-octets t r zero o w h l = let e : w % 256 ≡ w = omega arith in rw e (r o w (omega arith) l)
-octets t r (suc n) o w h l =
-    ap₂ bitXor (r o (w % 256) (omega arith) (omega arith))
-    (ap (λ (x : ℕ). syndromeBy t (suc n) x (w / 256)) (omega arith) ∙ octets t r n (suc o) (w / 256) (omega arith) (omega (arith, pow-suc 256 (suc n))))
-    ∙ sym (syndrome-xor low high)
-    ∙ ap syndrome (xor-comm low high ∙ ap (λ (x : ℕ). bitXor x low) up ∙ xor-shifted (w / 256) (suc o * 8) low below ∙ sym split)
-  where
-    low : ℕ
-    low = w % 256 * 256 ^ o
-
-    high : ℕ
-    high = w / 256 * 256 ^ suc o
-
-    up : high ≡ w / 256 * 2 ^ (suc o * 8)
-    up = ap (λ (x : ℕ). w / 256 * x) (sym (octet-power (suc o)))
-
-    below : low < 2 ^ (suc o * 8)
-    below =
-        subst (λ (x : ℕ). low < x) (mul-comm 256 (256 ^ o) ∙ sym (pow-suc 256 o) ∙ sym (octet-power (suc o)))
-        (mul-lt (w % 256) 256 (256 ^ o) (omega arith) (subst (λ (x : ℕ). zero < x) (octet-power o) (pow-pos (o * 8))))
-
-    split : w * 256 ^ o ≡ w / 256 * 2 ^ (suc o * 8) + low
-    split =
-        ap (λ (x : ℕ). x * 256 ^ o) (omega arith) ∙ add-mul (w / 256 * 256) (w % 256) (256 ^ o)
-        ∙ ap (λ (x : ℕ). x + low) (mul-assoc (w / 256) 256 (256 ^ o) ∙ ap (λ (x : ℕ). w / 256 * x) (mul-comm 256 (256 ^ o) ∙ sym (pow-suc 256 o)) ∙ up)
-
-pub word-syndrome : (t : List ℕ) → Syndromes t → (n w : ℕ) → suc n ≤ 8 → w < 256 ^ suc n → syndromeBy t (suc n) 0 w ≡ syndrome w
-word-syndrome t r n w h l = octets t r n 0 w (omega arith) l ∙ ap syndrome (mul-one w)

@@ -1,6 +1,6 @@
 // For each remainder, the places of the code bits to flip: the higher place, 64 times the other one, with 63 where there
 // is none, and 4,096 times how many they are. 3 says that no two bits leave this remainder.
-ghost use Rattle.hec.specs.Lent.{Flips};
+ghost use Rattle.bch.specs.Tables.{Flips};
 
 const FLIPS: [u16; 4096] = [
     4095,

@@ -10,14 +10,14 @@ use borrow.Author.Tests.{eq-eqb, eqb-true}
 use lib.Pow.{pow-mono}
 use lib.Bits.{bitXor, xor-block, xor-lt, xor-zero-r}
 use lib.Count.{ones, ones-ones}
-use Rattle.hec.specs.Code.{TrueWord, Codeword, times, remainder, isTrue}
-use Rattle.hec.specs.Lent.{syndrome}
-use Rattle.hec.proofs.Both.{and-left, and-right}
-use Rattle.hec.proofs.Xor.{bit, xor-half}
-use Rattle.hec.proofs.Ones.{half-lt, ones-xor-odd}
-use Rattle.hec.proofs.Linear.{rem-zero, rem-xor}
-use Rattle.hec.proofs.Range.{remainder-lt}
-use Rattle.hec.proofs.Multiple.{multiple-code, code-multiple}
+use Rattle.bch.specs.Code.{TrueWord, Codeword, times, remainder, isTrue}
+use Rattle.bch.specs.Tables.{syndrome}
+use Rattle.bch.proofs.Both.{and-left, and-right}
+use Rattle.bch.proofs.Xor.{bit, xor-half}
+use Rattle.bch.proofs.Ones.{half-lt, ones-xor-odd}
+use Rattle.bch.proofs.Linear.{rem-zero, rem-xor}
+use Rattle.bch.proofs.Range.{remainder-lt}
+use Rattle.bch.proofs.Multiple.{multiple-code, code-multiple}
 
 -- the parity of a sum, by the bits
 parity : (x y m n : ℕ) → m % 2 ≡ x → n % 2 ≡ y → (m + n) % 2 ≡ bitXor x y

@@ -14,14 +14,14 @@ use lib.Count.{ones, ones-step, ones-ones}
 use borrow.Author.Tests.{le-ltb}
 use lib.Dec.{T, eqb, ltb, eqb→eq}
 use lib.ListN.{getD}
-use Rattle.hec.specs.Code.{remainderFrom, double, remainder}
-use Rattle.hec.specs.Lent.{firstPlace, secondPlace, bitsOf, countsOf, Flips}
-use Rattle.hec.proofs.Both.{left, right}
-use Rattle.hec.proofs.Xor.{bit, xor-assoc}
-use Rattle.hec.proofs.Ones.{half-lt, ones-none}
-use Rattle.hec.proofs.Linear.{rem-zero}
-use Rattle.hec.proofs.Range.{remainder-lt}
-use Rattle.hec.proofs.Places.{remainderOf, bits-within, bits-few, bits-leave}
+use Rattle.bch.specs.Code.{remainderFrom, double, remainder}
+use Rattle.bch.specs.Tables.{firstPlace, secondPlace, bitsOf, countsOf, Flips}
+use Rattle.bch.proofs.Both.{left, right}
+use Rattle.bch.proofs.Xor.{bit, xor-assoc}
+use Rattle.bch.proofs.Ones.{half-lt, ones-none}
+use Rattle.bch.proofs.Linear.{rem-zero}
+use Rattle.bch.proofs.Range.{remainder-lt}
+use Rattle.bch.proofs.Places.{remainderOf, bits-within, bits-few, bits-leave}
 
 -- a list of 2^n entries, dealt out by the bits of their numbers, so that antt finds an entry in n steps
 data Tree : Type 0 where

@@ -1,6 +1,6 @@
 // For each of the eight octets of a word, the last first, the syndrome of each of its 256 values: eight look-ups give the
 // syndrome of a word. Its rule comes from that of the 63 remainders.
-ghost use Rattle.hec.specs.Lent.{Syndromes};
+ghost use Rattle.bch.specs.Tables.{Syndromes};
 
 const SYNDROMES: [u16; 2048] = [
     0x0000,

@@ -8,8 +8,8 @@ use native.Mathlib.Omega.{arith}
 use borrow.Author.Tests.{lt-ltb, le-ltb}
 use lib.Dec.{ltb, lit<}
 use lib.Bits.{bitXor, xor-lt, xor-block}
-use Rattle.hec.specs.Code.{double, place, remainderFrom, remainder}
-use Rattle.hec.proofs.Xor.{bit}
+use Rattle.bch.specs.Code.{double, place, remainderFrom, remainder}
+use Rattle.bch.proofs.Xor.{bit}
 
 pub double-lt : (p : ℕ) → p < 4096 → double p < 4096
 double-lt p h = go (decLt (p * 2) 4096)

@@ -6,8 +6,8 @@ use native.Mathlib.Nat.{one-mul, zero-mul, pow-suc, add-zero, add-suc, suc-add, 
 use native.Mathlib.Omega.{arith}
 use lib.Dec.{lit<}
 use lib.Bits.{bitXor, xor-zero-r}
-use Rattle.hec.specs.Code.{remainderFrom, double, place, remainder}
-use Rattle.hec.proofs.Linear.{rem-zero}
+use Rattle.bch.specs.Code.{remainderFrom, double, place, remainder}
+use Rattle.bch.proofs.Linear.{rem-zero}
 
 rem-power : (n k i : ℕ) → i < n → remainderFrom n (place k) (1 * 2 ^ i) ≡ place (k + i)
 unfolding remainderFrom place

@@ -12,13 +12,13 @@ use lib.Pow.{pow-pos, pow-lt, shl-exact}
 use lib.Bits.{bitXor, xor-lt}
 use lib.Count.{ones, ones-cat, ones-ones}
 use lib.ListN.{getD}
-use Rattle.hec.specs.Code.{remainder}
-use Rattle.hec.specs.Lent.{firstPlace, secondPlace, bitOf, bitsOf}
-use Rattle.hec.proofs.Xor.{xor-half}
-use Rattle.hec.proofs.Ones.{ones-xor-le}
-use Rattle.hec.proofs.Linear.{rem-zero, rem-xor}
-use Rattle.hec.proofs.Patterns.{rem-one}
-use Rattle.hec.proofs.RemainderRule.{remainders, rule}
+use Rattle.bch.specs.Code.{remainder}
+use Rattle.bch.specs.Tables.{firstPlace, secondPlace, bitOf, bitsOf}
+use Rattle.bch.proofs.Xor.{xor-half}
+use Rattle.bch.proofs.Ones.{ones-xor-le}
+use Rattle.bch.proofs.Linear.{rem-zero, rem-xor}
+use Rattle.bch.proofs.Patterns.{rem-one}
+use Rattle.bch.proofs.RemainderRule.{remainders, rule}
 
 -- the remainder of a place, and how many bits it is: 63 is none
 abbrev pub remainderOf : ℕ → ℕ

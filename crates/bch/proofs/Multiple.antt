@@ -11,12 +11,12 @@ use lib.Arith.{lt-one, bin-ind, digits-div, digits-mod}
 use lib.Dec.{ltb, lit<}
 use lib.Pow.{pow-pos, pow-mono}
 use lib.Bits.{bitXor, differ, xor-zero-r, xor-lt, xor-self, xor-comm, xor-step, xor-block, xor-mod, xor-shr, xor-shifted}
-use Rattle.hec.specs.Code.{generator, times, Codeword, double, place, remainderFrom, remainder}
-use Rattle.hec.proofs.Xor.{bit, xor-half, xor-odd, xor-assoc, xor-four, xor-cancel, bit-times}
-use Rattle.hec.proofs.Linear.{rem-zero, rem-xor}
-use Rattle.hec.proofs.Range.{double-lt, bit-times-lt, rem-lt, remainder-lt}
-use Rattle.hec.proofs.Ones.{half-lt}
-use Rattle.hec.proofs.Low.{low-remainder}
+use Rattle.bch.specs.Code.{generator, times, Codeword, double, place, remainderFrom, remainder}
+use Rattle.bch.proofs.Xor.{bit, xor-half, xor-odd, xor-assoc, xor-four, xor-cancel, bit-times}
+use Rattle.bch.proofs.Linear.{rem-zero, rem-xor}
+use Rattle.bch.proofs.Range.{double-lt, bit-times-lt, rem-lt, remainder-lt}
+use Rattle.bch.proofs.Ones.{half-lt}
+use Rattle.bch.proofs.Low.{low-remainder}
 
 -- twice a sum is the sum of twice the two
 twice-xor : (a b : ℕ) → bitXor a b * 2 ≡ bitXor (a * 2) (b * 2)

@@ -7,9 +7,9 @@ use Prim.Native.Nat.{ℕ, zero, suc, _+_, _<_}
 use native.Mathlib.Nat.{add-zero, zero-add, add-suc, suc-add, le-of-suc-le-suc, not-suc-le-zero}
 use lib.Dec.{T, eqb, eqb→eq}
 use lib.ListN.{length, getD}
-use Rattle.hec.specs.Code.{double, place}
-use Rattle.hec.specs.Lent.{Remainders}
-use Rattle.hec.proofs.Both.{left, right}
+use Rattle.bch.specs.Code.{double, place}
+use Rattle.bch.specs.Tables.{Remainders}
+use Rattle.bch.proofs.Both.{left, right}
 
 -- each entry is p, and then p doubled
 abbrev doubling : ℕ → List ℕ → Bool
