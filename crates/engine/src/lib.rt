@@ -29,9 +29,9 @@ pub use host::remove_port;
 // The host gives the key, which counts from the next call on. Answers 0, 1 or 10.
 pub use host::give_key;
 // HLend into a lent target. Answers 0 or 11.
-pub use framing::hlend::write_hlend;
+pub use xgtc::hlend::write_hlend;
 // An allocation structure into a lent target. Answers 0 or 11.
-pub use framing::allocation::write_allocation;
+pub use xgtc::allocation::write_allocation;
 // An XGEM header, and an XGEM frame with its SDU and padding, into a lent target. Answer 0 or 11.
 pub use framing::xgem::write_xgem;
 pub use framing::xgem::write_xgem_frame;
