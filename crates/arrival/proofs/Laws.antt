@@ -19,7 +19,7 @@ use Rattle.timing.specs.Timing.{frameEnd}
 use Rattle.activation.specs.Receiving.{receiveAll, messagesIn}
 use Rattle.replies.specs.Replies as replied
 use Rattle.replies.specs.Replies.{Replied, repliesFrom}
-use Rattle.framing.specs.declared.hlend.Hlend.{Hlend}
+use Rattle.xgtc.specs.declared.hlend.Hlend.{Hlend}
 use Rattle.station.specs.declared.slots.Ports.{Ports}
 use Rattle.station.specs.Limits.{slots, slotBytes}
 use Rattle.ranges.specs.Ranges.{inRange, identityFits, allocsFit, portsFit, slotFits, emptySlot, partialFits, partialsFit}

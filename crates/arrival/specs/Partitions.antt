@@ -4,7 +4,7 @@
 use Prim.Native.Nat.{ℕ, _+_, _*_}
 use mathlib.Core.List.{List}
 use lib.ListN.{take, drop}
-use Rattle.framing.specs.declared.hlend.Hlend.{Hlend}
+use Rattle.xgtc.specs.declared.hlend.Hlend.{Hlend}
 use Rattle.entries.specs.Limits.{structureOctets}
 use Rattle.ploam.specs.Layout.{messageOctets}
 

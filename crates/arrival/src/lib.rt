@@ -4,7 +4,7 @@ ghost use mathlib.Core.Bool.{true};
 ghost use Prim.Native.Nat.{_+_, _≤_};
 ghost use lib.ListN.{length};
 ghost use Rattle.aes.specs.MixTable.{mixTable};
-ghost use Rattle.framing.specs.Reads.{readHlend};
+ghost use Rattle.xgtc.specs.Reads.{readHlend};
 ghost use Rattle.ranges.specs.Ranges.{inRange};
 ghost use Rattle.bwmap.specs.Limits.{planNumbers};
 ghost use Rattle.bwmap.specs.Tables.{Tables};
@@ -20,13 +20,13 @@ pub mod partitions;
 
 use bwmap::Plan;
 use entries::Own;
-use framing::hlend::Hlend;
-use framing::hlend::HlendRead;
 use payload::Delineation;
 use payload::Received;
 use station::Activation;
 use station::Station;
 use station::answers::Answer;
+use xgtc::hlend::Hlend;
+use xgtc::hlend::HlendRead;
 
 pub fn is_operating(a: Activation) -> bool
     ensures { λ r. ⌜ r ≡ isOperating a ⌝ }
@@ -220,7 +220,7 @@ fn by_hlend(
     requires { ⌜ Tables (now syndromes) (now flips) × (now mix ≡ mixTable) × (inRange s ≡ true) × (buffersFit (length (now frame)) (record { memory = now memory; plan = now plan; replies = now replies; deliveries = now deliveries }) ≡ true) ⌝ }
     ensures { λ r. ⌜ record { outcome = r; lent = record { memory = now (memory .exit); plan = now (plan .exit); replies = now (replies .exit); deliveries = now (deliveries .exit) } } ≡ byHlend (readHlend (now (frame .entry))) s (now (frame .entry)) delay (record { memory = now (memory .entry); plan = now (plan .entry); replies = now (replies .entry); deliveries = now (deliveries .entry) }) ⌝ }
 {
-    match framing::hlend::read_hlend_by(syndromes, flips, frame) {
+    match xgtc::hlend::read_hlend_by(syndromes, flips, frame) {
         HlendRead::Fields(h) => {
             if frame.len() < partitions::header_end(h) {
                 return without(Answer::HeaderTooLong, timing::unread_time(s));
@@ -318,8 +318,8 @@ pub fn frame(
     ) {
         return without(Answer::BufferTooShort, s);
     }
-    let syndromes = hec::syndromes::table();
-    let flips = hec::flips::table();
+    let syndromes = bch::syndromes::table();
+    let flips = bch::flips::table();
     let mix = aes::table::MIX;
     by_hlend(
         &syndromes,

@@ -1,8 +1,8 @@
 // Where the partitions of a downstream frame end (clause 8.1).
 ghost use mathlib.Core.Path.{_≡_};
 ghost use Rattle.arrival.specs.Partitions.{mapEnd, headerEnd};
-use framing::hlend::Hlend;
 use ploam::MESSAGE_OCTETS;
+use xgtc::hlend::Hlend;
 
 pub(crate) const HLEND_OCTETS: usize = 4;
 

@@ -8,7 +8,7 @@ use lib.Bits.{bitXor, xor-zero-r}
 use lib.ListN.{length, getD, drop, drop-of-length-le}
 use lib.Seq.{drop-cons}
 use Rattle.hec.specs.Reads.{Reading, reading}
-use Rattle.hec.proofs.Xor.{xor-assoc}
+use Rattle.bch.proofs.Xor.{xor-assoc}
 use Rattle.bench_exports.specs.Sums.{valueOf, readSum}
 
 module _ (n : ℕ) (words : List ℕ) (i sum : ℕ) (so-far : bitXor sum (readSum n (drop i words)) ≡ readSum n words) where

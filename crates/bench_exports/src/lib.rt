@@ -32,8 +32,8 @@ fn value64(r: Reading64) -> u64
 pub extern "C" fn bench_read32(words: &[u32]) -> u32
     ensures { λ r. ⌜ r ≡ readSum 32 (now (words .entry)) ⌝ }
 {
-    let syndromes = hec::syndromes::table();
-    let flips = hec::flips::table();
+    let syndromes = bch::syndromes::table();
+    let flips = bch::flips::table();
     let mut sum: u32 = 0;
     let mut i: usize = 0;
     while i < words.len() {
@@ -47,8 +47,8 @@ pub extern "C" fn bench_read32(words: &[u32]) -> u32
 pub extern "C" fn bench_read64(words: &[u64]) -> u64
     ensures { λ r. ⌜ r ≡ readSum 64 (now (words .entry)) ⌝ }
 {
-    let syndromes = hec::syndromes::table();
-    let flips = hec::flips::table();
+    let syndromes = bch::syndromes::table();
+    let flips = bch::flips::table();
     let mut sum: u64 = 0;
     let mut i: usize = 0;
     while i < words.len() {

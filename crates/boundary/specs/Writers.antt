@@ -5,7 +5,8 @@ use mathlib.Core.Bool.{Bool, _&&_, cond}
 use mathlib.Core.List.{List}
 use lib.Dec.{eqb, ltb}
 use Rattle.framing.specs.Writes as writes
-use Rattle.framing.specs.Writes.{number, writeHlend, writeAllocation, writeXgemFrame}
+use Rattle.framing.specs.Writes.{number, writeXgemFrame}
+use Rattle.xgtc.specs.Writes.{writeHlend, writeAllocation}
 
 -- the answer's number, and what the target then holds
 pub record Target : Type 0 where

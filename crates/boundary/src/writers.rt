@@ -3,11 +3,11 @@ ghost use mathlib.Core.Path.{_≡_};
 ghost use Rattle.framing.specs.Writes.{number};
 ghost use Rattle.boundary.specs.Writers.{Target, hlendIn, allocationIn, xgemFrameIn};
 use framing::Written;
-use framing::allocation::Allocation;
-use framing::hlend::Hlend;
 use framing::xgem::XgemHeader;
 use ids::AllocId;
 use ids::PortId;
+use xgtc::allocation::Allocation;
+use xgtc::hlend::Hlend;
 
 const NOT_WRITTEN: u8 = 11;
 
@@ -28,7 +28,7 @@ pub extern "C" fn lingbarrow_write_hlend(bwmap: u16, ploam: u8, target: &mut [u8
         bwmap: bwmap,
         ploam: ploam,
     };
-    written_number(framing::hlend::write_hlend(h, target))
+    written_number(xgtc::hlend::write_hlend(h, target))
 }
 
 #[no_mangle]
@@ -63,7 +63,7 @@ pub extern "C" fn lingbarrow_write_allocation(
         fwi: fwi == 1,
         profile: profile,
     };
-    written_number(framing::allocation::write_allocation(a, target))
+    written_number(xgtc::allocation::write_allocation(a, target))
 }
 
 #[no_mangle]

@@ -8,7 +8,7 @@ use native.Mathlib.Numerals.{add-one}
 use native.Mathlib.Nat.{add-zero}
 use lib.ListN.{length}
 use lib.Seq.{sets}
-use Rattle.framing.specs.declared.allocation.Allocation.{Allocation}
+use Rattle.xgtc.specs.declared.allocation.Allocation.{Allocation}
 use Rattle.entries.specs.declared.Own.{Own}
 use Rattle.entries.specs.declared.Verdict.{Verdict}
 use Rattle.entries.specs.declared.Standing.{Standing}

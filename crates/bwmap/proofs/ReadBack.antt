@@ -8,7 +8,7 @@ use native.Mathlib.Omega.{arith}
 use lib.Dec.{eqb}
 use lib.ListN.{length, take, drop}
 use lib.Seq.{take-at, drop-at}
-use Rattle.framing.specs.declared.allocation.Allocation.{Allocation}
+use Rattle.xgtc.specs.declared.allocation.Allocation.{Allocation}
 use Rattle.entries.specs.declared.Own.{Own}
 use Rattle.bwmap.specs.Series.{Series, plannedOf}
 use Rattle.bwmap.specs.Plan.{mark, burstFlags, headFlags, moreFlags, planRecord, moreNumbers, seriesNumbers, numbers, records, written}

@@ -14,9 +14,10 @@ use Rattle.hec.specs.Reads.{reading}
 use Rattle.hec.specs.Lent.{readingBy}
 use Rattle.hec.proofs.LentReads.{lent64}
 use Rattle.framing.specs.Octets.{value}
-use Rattle.framing.specs.Layouts.{allocationOf}
-use Rattle.framing.specs.declared.allocation.Allocation.{Allocation}
-use Rattle.framing.specs.Reads.{Found, short, taken, readAs, readAllocation}
+use Rattle.xgtc.specs.Layouts.{allocationOf}
+use Rattle.xgtc.specs.declared.allocation.Allocation.{Allocation}
+use Rattle.framing.specs.Reads.{Found, short, taken, readAs}
+use Rattle.xgtc.specs.Reads.{readAllocation}
 use Rattle.framing.proofs.Numbers.{Bytes, value-lt}
 use Rattle.entries.specs.Standings.{readBy}
 use Rattle.bwmap.specs.Series.{entryAt}

@@ -14,11 +14,12 @@ use Rattle.hec.specs.Reads.{Reading, word, reading}
 use Rattle.hec.proofs.Nearest.{is-reading}
 use Rattle.hec.proofs.Words.{undamaged}
 use Rattle.framing.specs.Octets.{value, octets}
-use Rattle.framing.specs.Layouts.{allocationOf, allocationFits, allocationWord}
-use Rattle.framing.specs.Reads.{Found, fields, short, taken, readAllocation}
-use Rattle.framing.specs.declared.allocation.Allocation.{Allocation}
+use Rattle.xgtc.specs.Layouts.{allocationOf, allocationFits, allocationWord}
+use Rattle.framing.specs.Reads.{Found, fields, short, taken}
+use Rattle.xgtc.specs.Reads.{readAllocation}
+use Rattle.xgtc.specs.declared.allocation.Allocation.{Allocation}
 use Rattle.framing.proofs.Numbers.{octets-length, value-octets}
-use Rattle.framing.proofs.Layouts.{allocation-true, allocation-back}
+use Rattle.xgtc.proofs.Layouts.{allocation-true, allocation-back}
 use Rattle.entries.specs.declared.Own.{Own}
 use Rattle.entries.specs.declared.Standing.{Standing}
 use Rattle.entries.specs.Standings.{standing, sorted, startUnfit, noRoom, continues, held}

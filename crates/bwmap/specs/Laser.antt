@@ -5,7 +5,7 @@ use mathlib.Core.Bool.{Bool, true, false, cond}
 use mathlib.Core.List.{List, [], _∷_}
 use lib.Dec.{eqb}
 use lib.ListN.{take}
-use Rattle.framing.specs.declared.allocation.Allocation.{Allocation}
+use Rattle.xgtc.specs.declared.allocation.Allocation.{Allocation}
 use Rattle.bwmap.specs.Limits.{numbersARecord}
 use Rattle.bwmap.specs.Series.{Series}
 

@@ -5,8 +5,9 @@ use mathlib.Core.Bool.{Bool, cond}
 use mathlib.Core.List.{List, [], _∷_}
 use lib.Dec.{ltb, leb}
 use lib.ListN.{length, drop}
-use Rattle.framing.specs.declared.allocation.Allocation.{Allocation}
-use Rattle.framing.specs.Reads.{Found, readAllocation}
+use Rattle.xgtc.specs.declared.allocation.Allocation.{Allocation}
+use Rattle.framing.specs.Reads.{Found}
+use Rattle.xgtc.specs.Reads.{readAllocation}
 use Rattle.station.specs.Limits.{upstreamWords}
 use Rattle.entries.specs.declared.Own.{Own}
 use Rattle.entries.specs.declared.Verdict.{Verdict}

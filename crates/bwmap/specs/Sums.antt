@@ -6,8 +6,8 @@ use mathlib.Core.Bool.{Bool, true, false}
 use mathlib.Core.List.{List, [], _∷_, _++_}
 use lib.ListN.{replicate}
 use Rattle.framing.specs.Octets.{octets}
-use Rattle.framing.specs.Layouts.{allocationWord}
-use Rattle.framing.specs.declared.allocation.Allocation.{Allocation}
+use Rattle.xgtc.specs.Layouts.{allocationWord}
+use Rattle.xgtc.specs.declared.allocation.Allocation.{Allocation}
 use Rattle.station.specs.declared.Activation.the-variants.{Operation}
 use Rattle.entries.specs.Limits.{structureOctets, continuing}
 use Rattle.entries.specs.declared.Own.{Own}

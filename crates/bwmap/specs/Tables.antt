@@ -2,7 +2,7 @@
 -- Assumes nothing.
 use mathlib.Core.List.{List}
 use Prim.Native.Nat.{ℕ}
-use Rattle.hec.specs.Lent.{Syndromes, Flips}
+use Rattle.bch.specs.Tables.{Syndromes, Flips}
 
 pub record Tables (syndromes flips : List ℕ) : Type 0 where
   pub octets : Syndromes syndromes

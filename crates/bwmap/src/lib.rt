@@ -165,7 +165,7 @@ pub fn plan_map_by(
 pub fn plan_map(map: &[u8], own: Own, carried: u16, plan: &mut [u16]) -> Answer
     ensures { λ r. ⌜ MapLeaves own (now (map .entry)) carried (now (plan .entry)) r (now (plan .exit)) ⌝ }
 {
-    let syndromes = hec::syndromes::table();
-    let flips = hec::flips::table();
+    let syndromes = bch::syndromes::table();
+    let flips = bch::flips::table();
     plan_map_by(&syndromes, &flips, map, own, carried, plan)
 }

@@ -1,8 +1,8 @@
 // The records of a plan.
 use super::series;
-use framing::allocation::Allocation;
-use framing::allocation::AllocationRead;
 use ids::AllocId;
+use xgtc::allocation::Allocation;
+use xgtc::allocation::AllocationRead;
 ghost use Prim.Native.Nat.{_+_, _*_, _≤_, _<_};
 ghost use mathlib.Core.Path.{_≡_};
 ghost use mathlib.Core.List.{_∷_, []};
@@ -82,7 +82,7 @@ pub(crate) fn allocation_at(
     ensures { λ r. ⌜ r ≡ allocationAt (now (map .entry)) i ⌝ }
 {
     let at = series::STRUCTURE_OCTETS * i;
-    match framing::allocation::read_allocation_by(syndromes, flips, &map[at..]) {
+    match xgtc::allocation::read_allocation_by(syndromes, flips, &map[at..]) {
         AllocationRead::Fields(a) => a,
         AllocationRead::Unreadable => no_allocation(),
         AllocationRead::Short => no_allocation(),

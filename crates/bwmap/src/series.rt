@@ -2,7 +2,7 @@
 use entries::Own;
 use entries::Standing;
 use entries::Verdict;
-use framing::allocation::Allocation;
+use xgtc::allocation::Allocation;
 ghost use Prim.Native.Nat.{_≤_, _<_};
 ghost use mathlib.Core.Path.{_≡_};
 ghost use mathlib.Core.Bool.{true};

@@ -12,11 +12,12 @@ use lib.Seq.{take-at, drop-at, take-all}
 use borrow.Author.Tests.{le-leb}
 use Rattle.hec.specs.Reads.{word}
 use Rattle.hec.proofs.Compute.{computed32}
-use Rattle.hec.proofs.SyndromeRule.{syndromes}
-use Rattle.hec.proofs.FlipRule.{flips}
-use Rattle.framing.specs.declared.hlend.Hlend.{Hlend}
-use Rattle.framing.specs.Layouts.{hlendOf}
-use Rattle.framing.specs.Reads.{fields, taken, readHlend}
+use Rattle.bch.proofs.SyndromeRule.{syndromes}
+use Rattle.bch.proofs.FlipRule.{flips}
+use Rattle.xgtc.specs.declared.hlend.Hlend.{Hlend}
+use Rattle.xgtc.specs.Layouts.{hlendOf}
+use Rattle.framing.specs.Reads.{fields, taken}
+use Rattle.xgtc.specs.Reads.{readHlend}
 use Rattle.ploam.specs.Layout.{messageOctets, coveredOctets, addressOf, typeOf}
 use Rattle.integrity.specs.Integrity.{covered, micOf, micRight, defaultKey, byDefault, installedKey, genuine}
 use Rattle.ploam.specs.Reading.{contentAs, messageOf, received}

@@ -11,12 +11,13 @@ use lib.Dec.{lit<}
 use lib.ListN.{length}
 use Rattle.hec.specs.Reads.{word}
 use Rattle.hec.proofs.Compute.{computed32}
-use Rattle.hec.proofs.SyndromeRule.{syndromes}
-use Rattle.hec.proofs.FlipRule.{flips}
-use Rattle.framing.specs.declared.allocation.Allocation.{Allocation}
-use Rattle.framing.specs.declared.hlend.Hlend.{Hlend}
-use Rattle.framing.specs.Layouts.{hlendOf, allocationOf}
-use Rattle.framing.specs.Reads.{Found, fields, taken, readHlend}
+use Rattle.bch.proofs.SyndromeRule.{syndromes}
+use Rattle.bch.proofs.FlipRule.{flips}
+use Rattle.xgtc.specs.declared.allocation.Allocation.{Allocation}
+use Rattle.xgtc.specs.declared.hlend.Hlend.{Hlend}
+use Rattle.xgtc.specs.Layouts.{hlendOf, allocationOf}
+use Rattle.framing.specs.Reads.{Found, fields, taken}
+use Rattle.xgtc.specs.Reads.{readHlend}
 use Rattle.station.specs.declared.Activation.the-variants.{Operation, Intermittent}
 use Rattle.station.specs.declared.Station.{Station}
 use Rattle.station.specs.declared.answers.Answer.the-variants.{Done}

@@ -8,11 +8,13 @@ use lib.Dec.{eqb, leb}
 use lib.ListN.{length}
 use borrow.Author.Tests.{leb-true, leb-false}
 use Rattle.ids.specs.Ids.{managementPort}
-use Rattle.framing.specs.declared.hlend.Hlend.{Hlend}
-use Rattle.framing.specs.Reads.{Found, fields, unreadable, short, readHlend}
+use Rattle.xgtc.specs.declared.hlend.Hlend.{Hlend}
+use Rattle.framing.specs.Reads.{Found, fields, unreadable, short}
+use Rattle.xgtc.specs.Reads.{readHlend}
 use Rattle.framing.specs.declared.octets.Written.the-variants.{Done as WriteDone, Refused}
 use Rattle.framing.specs.Octets.{octets}
-use Rattle.framing.specs.Layouts.{hlendFits, hlendWord, allocationFits, allocationWord, xgemFits, xgemWord}
+use Rattle.framing.specs.Layouts.{xgemFits, xgemWord}
+use Rattle.xgtc.specs.Layouts.{hlendFits, hlendWord, allocationFits, allocationWord}
 use Rattle.framing.specs.Writes as writing
 use Rattle.framing.specs.Writes.{put, wrote, carrying, xgemFrame}
 use Rattle.ids.specs.declared.PortId.{PortId}

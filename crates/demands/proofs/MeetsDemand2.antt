@@ -4,7 +4,8 @@ use Prim.Native.Nat.{ℕ}
 use mathlib.Core.Path.{_≡_, _∙_, refl, ap}
 use mathlib.Core.Bool.{Bool, true, false, cond}
 use mathlib.Core.List.{List}
-use Rattle.framing.proofs.RoundTrips.{hlend-written-read, allocation-written-read, xgem-written-read, frame-written-read}
+use Rattle.framing.proofs.RoundTrips.{xgem-written-read, frame-written-read}
+use Rattle.xgtc.proofs.RoundTrips.{hlend-written-read, allocation-written-read}
 use Rattle.ploam.specs.Reading.{received}
 use Rattle.integrity.specs.Integrity.{installedKey, genuine}
 use Rattle.ploam.specs.declared.Message.{Message}

@@ -13,11 +13,12 @@ use Rattle.hec.specs.Reads.{Reading, word, reading}
 use Rattle.hec.specs.Lent.{readingBy}
 use Rattle.hec.proofs.Compute.{computed32}
 use Rattle.hec.proofs.LentReads.{lent64}
-use Rattle.hec.proofs.SyndromeRule.{syndromes, rule as syndrome-rule}
-use Rattle.hec.proofs.FlipRule.{flips, rule as flip-rule}
-use Rattle.framing.specs.declared.hlend.Hlend.{Hlend}
-use Rattle.framing.specs.Layouts.{hlendOf}
-use Rattle.framing.specs.Reads.{fields, taken, readHlend}
+use Rattle.bch.proofs.SyndromeRule.{syndromes, rule as syndrome-rule}
+use Rattle.bch.proofs.FlipRule.{flips, rule as flip-rule}
+use Rattle.xgtc.specs.declared.hlend.Hlend.{Hlend}
+use Rattle.xgtc.specs.Layouts.{hlendOf}
+use Rattle.framing.specs.Reads.{fields, taken}
+use Rattle.xgtc.specs.Reads.{readHlend}
 use Rattle.station.specs.declared.Activation.the-variants.{SerialNumber}
 use Rattle.station.specs.declared.Station.{Station}
 use Rattle.station.specs.declared.answers.Answer.{Answer}

@@ -5,8 +5,9 @@ use mathlib.Core.Path.{_≡_, _∙_, refl, sym, ap, subst}
 use mathlib.Core.Bool.{Bool, true, false, not, cond}
 use mathlib.Core.List.{List, [], _∷_}
 use Rattle.ids.specs.declared.PortId.{PortId}
-use Rattle.framing.specs.declared.hlend.Hlend.{Hlend}
-use Rattle.framing.specs.Reads.{Found, fields, readHlend}
+use Rattle.xgtc.specs.declared.hlend.Hlend.{Hlend}
+use Rattle.framing.specs.Reads.{Found, fields}
+use Rattle.xgtc.specs.Reads.{readHlend}
 use Rattle.station.specs.declared.Station.{Station}
 use Rattle.station.specs.declared.answers.Answer.{Answer}
 use Rattle.station.specs.declared.answers.Answer.the-variants.{Done, StateOutOfRange, FrameLengthUnfit, BufferTooShort, HlendUnreadable, HeaderTooLong, DelineationLost, PortOutOfRange, PortHeldOrNotHeld, SlotsTaken, KeyRefused, NotWritten}

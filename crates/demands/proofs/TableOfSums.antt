@@ -5,9 +5,9 @@ use Prim.Native.Nat.{ℕ}
 use lib.Dec.{lit<}
 use Rattle.hec.specs.Reads.{Reading, word, unreadable}
 use Rattle.hec.proofs.Compute.{computed32}
-use Rattle.hec.proofs.SyndromeRule.{syndromes}
-use Rattle.hec.proofs.FlipRule.{flips}
-use Rattle.framing.specs.Layouts.{hlendOf}
+use Rattle.bch.proofs.SyndromeRule.{syndromes}
+use Rattle.bch.proofs.FlipRule.{flips}
+use Rattle.xgtc.specs.Layouts.{hlendOf}
 use Rattle.framing.specs.Reads.{taken}
 use Rattle.bwmap.proofs.Sums.{sum-8, sum-9, sum-10, sum-11}
 use Rattle.conduct.proofs.Sums.{sum-12}

@@ -9,12 +9,13 @@ use mathlib.Core.List.{List, [], _∷_}
 use lib.Dec.{lit<}
 use Rattle.hec.specs.Reads.{word}
 use Rattle.hec.proofs.Compute.{computed32}
-use Rattle.hec.proofs.SyndromeRule.{syndromes}
-use Rattle.hec.proofs.FlipRule.{flips}
-use Rattle.framing.specs.declared.allocation.Allocation.{Allocation}
-use Rattle.framing.specs.declared.hlend.Hlend.{Hlend}
-use Rattle.framing.specs.Layouts.{hlendOf, allocationOf}
-use Rattle.framing.specs.Reads.{Found, fields, taken, readHlend}
+use Rattle.bch.proofs.SyndromeRule.{syndromes}
+use Rattle.bch.proofs.FlipRule.{flips}
+use Rattle.xgtc.specs.declared.allocation.Allocation.{Allocation}
+use Rattle.xgtc.specs.declared.hlend.Hlend.{Hlend}
+use Rattle.xgtc.specs.Layouts.{hlendOf, allocationOf}
+use Rattle.framing.specs.Reads.{Found, fields, taken}
+use Rattle.xgtc.specs.Reads.{readHlend}
 use Rattle.station.specs.declared.Station.{Station}
 use Rattle.station.specs.declared.answers.Answer.the-variants.{Done}
 use Rattle.entries.specs.Standings.{standing, sorted, startUnfit, noRoom, continues, discovery}

@@ -8,15 +8,17 @@ use mathlib.Core.Bool.{Bool, true, false, _&&_}
 use mathlib.Core.List.{List}
 use lib.Dec.{leb}
 use lib.ListN.{length}
-use Rattle.framing.specs.declared.hlend.Hlend.{Hlend}
-use Rattle.framing.specs.declared.allocation.Allocation.{Allocation}
+use Rattle.xgtc.specs.declared.hlend.Hlend.{Hlend}
+use Rattle.xgtc.specs.declared.allocation.Allocation.{Allocation}
 use Rattle.framing.specs.declared.xgem.XgemHeader.{XgemHeader}
 use Rattle.framing.specs.declared.octets.Written.{Written}
 use Rattle.framing.specs.declared.octets.Written.the-variants.{Done as WriteDone, Refused}
 use Rattle.framing.specs.Octets.{octets}
-use Rattle.framing.specs.Layouts.{hlendFits, hlendWord, allocationFits, allocationWord, xgemFits, xgemWord}
+use Rattle.framing.specs.Layouts.{xgemFits, xgemWord}
+use Rattle.xgtc.specs.Layouts.{hlendFits, hlendWord, allocationFits, allocationWord}
 use Rattle.framing.specs.Writes.{put, carrying, xgemFrame}
-use Rattle.framing.specs.Reads.{fields, unreadable, readHlend}
+use Rattle.framing.specs.Reads.{fields, unreadable}
+use Rattle.xgtc.specs.Reads.{readHlend}
 use Rattle.ids.specs.declared.PortId.{PortId}
 use Rattle.ids.specs.Ids.{assignablePort}
 use Rattle.station.specs.declared.Station.{Station}

@@ -9,11 +9,13 @@ use mathlib.Core.Path.{_≡_}
 use mathlib.Core.Bool.{true, false}
 use mathlib.Core.List.{List, _++_}
 use lib.ListN.{length, take, drop}
-use Rattle.framing.specs.declared.hlend.Hlend.{Hlend}
-use Rattle.framing.specs.declared.allocation.Allocation.{Allocation}
+use Rattle.xgtc.specs.declared.hlend.Hlend.{Hlend}
+use Rattle.xgtc.specs.declared.allocation.Allocation.{Allocation}
 use Rattle.framing.specs.declared.xgem.XgemHeader.{XgemHeader}
-use Rattle.framing.specs.Layouts.{hlendFits, allocationFits, xgemFits, payloadSize}
-use Rattle.framing.specs.Reads.{fields, readHlend, readAllocation, readXgem}
+use Rattle.framing.specs.Layouts.{xgemFits, payloadSize}
+use Rattle.xgtc.specs.Layouts.{hlendFits, allocationFits}
+use Rattle.framing.specs.Reads.{fields, readXgem}
+use Rattle.xgtc.specs.Reads.{readHlend, readAllocation}
 use Rattle.framing.specs.Writes.{carrying}
 use Rattle.ploam.specs.Layout.{messageOctets, coveredOctets, addressOf, typeOf, seqNoOf}
 use Rattle.integrity.specs.Integrity.{micOf, micRight, keyFor, installedKey, genuine}

@@ -4,10 +4,11 @@
 use Prim.Native.Nat.{ℕ}
 use mathlib.Core.List.{List}
 use Rattle.ids.specs.declared.PortId.{PortId}
-use Rattle.framing.specs.declared.hlend.Hlend.{Hlend}
-use Rattle.framing.specs.declared.allocation.Allocation.{Allocation}
+use Rattle.xgtc.specs.declared.hlend.Hlend.{Hlend}
+use Rattle.xgtc.specs.declared.allocation.Allocation.{Allocation}
 use Rattle.framing.specs.declared.xgem.XgemHeader.{XgemHeader}
 use Rattle.framing.specs.Writes as writing
+use Rattle.xgtc.specs.Writes as xgtc-writing
 use Rattle.station.specs.declared.Station.{Station}
 use Rattle.station.specs.Station as station
 use Rattle.host.specs.declared.Outcome.{Outcome}
@@ -42,8 +43,8 @@ lingbarrow =
       removePort = afterRemove;
       giveKey = afterKey;
       stretchPlace = stretchPlace;
-      writeHlend = writing.writeHlend;
-      writeAllocation = writing.writeAllocation;
+      writeHlend = xgtc-writing.writeHlend;
+      writeAllocation = xgtc-writing.writeAllocation;
       writeXgem = writing.writeXgem;
       writeXgemFrame = writing.writeXgemFrame;
     }

@@ -2,7 +2,7 @@
 -- Assumes nothing.
 use mathlib.Core.Path.{_≡_}
 use Prim.Native.Nat.{ℕ, _^_, _≤_, _<_}
-use Rattle.hec.specs.Code.{TrueWord, distance}
+use Rattle.bch.specs.Code.{TrueWord, distance}
 use Rattle.hec.specs.Reads.{word, unreadable, reading}
 
 -- for words of n bits; HLend has 32, an allocation structure and an XGEM header 64

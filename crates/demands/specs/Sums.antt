@@ -4,7 +4,8 @@ use mathlib.Core.Path.{_≡_}
 use Prim.Native.Nat.{ℕ}
 use Rattle.framing.specs.Octets.{octets}
 use Rattle.framing.specs.Layouts.{payloadSize}
-use Rattle.framing.specs.Reads.{fields, unreadable, readHlend}
+use Rattle.framing.specs.Reads.{fields, unreadable}
+use Rattle.xgtc.specs.Reads.{readHlend}
 use Rattle.bwmap.specs.Sums.{Sum8, Sum9, Sum10, Sum11}
 use Rattle.conduct.proofs.Sums.{Sum12}
 

@@ -4,8 +4,9 @@
 use Prim.Native.Nat.{ℕ, _+_}
 use mathlib.Core.List.{List, _∷_}
 use lib.ListN.{take, drop}
-use Rattle.framing.specs.declared.hlend.Hlend.{Hlend}
-use Rattle.framing.specs.Reads.{Found, fields, unreadable, short, readHlend}
+use Rattle.xgtc.specs.declared.hlend.Hlend.{Hlend}
+use Rattle.framing.specs.Reads.{Found, fields, unreadable, short}
+use Rattle.xgtc.specs.Reads.{readHlend}
 use Rattle.framing.specs.Writes as writing
 use Rattle.framing.specs.declared.octets.Written.the-variants as Written
 use Rattle.station.specs.declared.Station.{Station}

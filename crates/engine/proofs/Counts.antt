@@ -11,10 +11,11 @@ use lib.Seq.{drop-drop}
 use borrow.Author.Tests.{leb-true}
 use Rattle.ids.specs.declared.PortId.{PortId}
 use Rattle.ids.specs.Ids.{managementPort}
-use Rattle.framing.specs.declared.hlend.Hlend.{Hlend}
+use Rattle.xgtc.specs.declared.hlend.Hlend.{Hlend}
 use Rattle.framing.specs.declared.xgem.XgemHeader.{XgemHeader}
 use Rattle.framing.specs.Layouts.{payloadSize}
-use Rattle.framing.specs.Reads.{Found, fields, unreadable, short, readHlend}
+use Rattle.framing.specs.Reads.{Found, fields, unreadable, short}
+use Rattle.xgtc.specs.Reads.{readHlend}
 use Rattle.framing.proofs.Frames.{covers}
 use Rattle.station.specs.declared.Station.{Station}
 use Rattle.station.specs.declared.answers.Answer.{Answer}

@@ -10,10 +10,11 @@ use lib.Dec.{leb}
 use lib.ListN.{length, take, drop}
 use borrow.Author.Tests.{le-leb}
 use Rattle.ids.specs.Ids.{managementPort}
-use Rattle.framing.specs.declared.hlend.Hlend.{Hlend}
-use Rattle.framing.specs.Layouts.{hlendOf}
+use Rattle.xgtc.specs.declared.hlend.Hlend.{Hlend}
+use Rattle.xgtc.specs.Layouts.{hlendOf}
 use Rattle.framing.specs.Octets.{value}
-use Rattle.framing.specs.Reads.{Found, fields, unreadable, short, taken, readHlend}
+use Rattle.framing.specs.Reads.{Found, fields, unreadable, short, taken}
+use Rattle.xgtc.specs.Reads.{readHlend}
 use Rattle.hec.specs.Reads.{reading}
 use Rattle.station.specs.declared.Station.{Station}
 use Rattle.entries.specs.Limits.{structureOctets}

@@ -9,8 +9,9 @@ use lib.Dec.{leb}
 use lib.ListN.{length}
 use borrow.Author.Tests.{le-leb, leb-true}
 use Rattle.ids.specs.Ids.{managementPort}
-use Rattle.framing.specs.declared.hlend.Hlend.{Hlend}
-use Rattle.framing.specs.Reads.{Found, fields, unreadable, short, readHlend}
+use Rattle.xgtc.specs.declared.hlend.Hlend.{Hlend}
+use Rattle.framing.specs.Reads.{Found, fields, unreadable, short}
+use Rattle.xgtc.specs.Reads.{readHlend}
 use Rattle.station.specs.declared.Station.{Station}
 use Rattle.station.specs.declared.answers.Answer.the-variants.{Done, StateOutOfRange, FrameLengthUnfit, BufferTooShort, HeaderTooLong}
 use Rattle.station.specs.Limits.{upstreamWords}

@@ -8,8 +8,9 @@ use mathlib.Core.List.{List, [], _∷_, _++_}
 use lib.Dec.{leb}
 use lib.ListN.{length, take, drop, length-take, length-drop, length-append}
 use lib.Seq.{drop-drop, drop-at}
-use Rattle.framing.specs.declared.hlend.Hlend.{Hlend}
-use Rattle.framing.specs.Reads.{Found, fields, unreadable, short, readHlend}
+use Rattle.xgtc.specs.declared.hlend.Hlend.{Hlend}
+use Rattle.framing.specs.Reads.{Found, fields, unreadable, short}
+use Rattle.xgtc.specs.Reads.{readHlend}
 use Rattle.ploam.specs.Layout.{messageOctets}
 use Rattle.integrity.specs.Integrity.{micOf, keyFor}
 use Rattle.integrity.specs.declared.Direction.the-variants.{Upstream}

@@ -11,7 +11,7 @@ use lib.Seq.{drop-drop}
 use borrow.Author.Tests.{le-leb, leb-true}
 use Rattle.ids.specs.declared.PortId.{PortId}
 use Rattle.ids.specs.Ids.{managementPort}
-use Rattle.framing.specs.declared.hlend.Hlend.{Hlend}
+use Rattle.xgtc.specs.declared.hlend.Hlend.{Hlend}
 use Rattle.framing.specs.declared.xgem.XgemHeader.{XgemHeader}
 use Rattle.framing.specs.Layouts.{payloadSize}
 use Rattle.framing.proofs.Frames.{covers}
@@ -32,7 +32,8 @@ use Rattle.arrival.specs.Frame.{isOperating}
 use Rattle.arrival.specs.Lengths.{lengthFits}
 use Rattle.engine.specs.Stretch.{empty, answerIf, inFrame, placeIn, placeBy, stretchPlace, cut}
 use Rattle.engine.specs.declared.alone.StretchPlace.{StretchPlace}
-use Rattle.framing.specs.Reads.{Found, fields, unreadable, short, readHlend}
+use Rattle.framing.specs.Reads.{Found, fields, unreadable, short}
+use Rattle.xgtc.specs.Reads.{readHlend}
 use Rattle.station.specs.declared.answers.Answer.the-variants.{Done, StateOutOfRange, FrameLengthUnfit, HeaderTooLong}
 use Rattle.ranges.specs.Ranges.{inRange}
 use Rattle.payload.proofs.Walks.{frame-inside, parse-done, parse-lost, parse-next}

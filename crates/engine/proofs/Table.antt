@@ -9,11 +9,12 @@ use lib.Dec.{leb}
 use lib.ListN.{length, take}
 use borrow.Author.Tests.{leb-true, leb-false, le-leb, lt-leb}
 use Rattle.ids.specs.Ids.{managementPort}
-use Rattle.framing.specs.declared.hlend.Hlend.{Hlend}
+use Rattle.xgtc.specs.declared.hlend.Hlend.{Hlend}
 use Rattle.hec.specs.Reads.{Reading, word, unreadable as unreadable-word, reading}
 use Rattle.framing.specs.Octets.{value}
-use Rattle.framing.specs.Layouts.{hlendOf}
-use Rattle.framing.specs.Reads.{Found, fields, unreadable, short, taken, readHlend}
+use Rattle.xgtc.specs.Layouts.{hlendOf}
+use Rattle.framing.specs.Reads.{Found, fields, unreadable, short, taken}
+use Rattle.xgtc.specs.Reads.{readHlend}
 use Rattle.station.specs.declared.Station.{Station}
 use Rattle.station.specs.declared.answers.Answer.{Answer}
 use Rattle.station.specs.declared.answers.Answer.the-variants.{Done, StateOutOfRange, FrameLengthUnfit, BufferTooShort, HlendUnreadable, HeaderTooLong, DelineationLost, PortOutOfRange, PortHeldOrNotHeld, SlotsTaken, KeyRefused, NotWritten}

@@ -7,11 +7,11 @@ ghost use Rattle.arrival.specs.Partitions.{headerEnd};
 ghost use Rattle.engine.specs.Stretch.{empty, answerIf, placeIn, PlaceIs, StretchIs};
 use arrival::lengths;
 use arrival::partitions;
-use framing::hlend::Hlend;
-use framing::hlend::HlendRead;
 use payload::Extent;
 use station::Station;
 use station::answers::Answer;
+use xgtc::hlend::Hlend;
+use xgtc::hlend::HlendRead;
 
 // Where in the frame the stretch stands, and its length; the frame call's answer, without 3.
 pub struct StretchPlace {
@@ -74,7 +74,7 @@ pub fn stretch_place(s: Station, frame: &[u8], k: usize) -> StretchPlace
     if !lengths::length_fits(frame.len()) {
         return empty(Answer::FrameLengthUnfit);
     }
-    match framing::hlend::read_hlend(frame) {
+    match xgtc::hlend::read_hlend(frame) {
         HlendRead::Fields(h) => {
             if frame.len() < partitions::header_end(h) {
                 return empty(Answer::HeaderTooLong);

@@ -9,8 +9,8 @@ pub use station::Station;
 // A frame has arrived: the plan of upstream bursts, the replies, the SDUs and the next state. Answers 0 to 6.
 pub use arrival::Outcome;
 pub use arrival::frame;
-// The same by lent tables, for a program in Rattle that makes many calls: it names `hec::syndromes::table()`,
-// `hec::flips::table()` and `aes::table::MIX` once. No caller from C sees it.
+// The same by lent tables, for a program in Rattle that makes many calls: it names `bch::syndromes::table()`,
+// `bch::flips::table()` and `aes::table::MIX` once. No caller from C sees it.
 pub use arrival::frame_by;
 // No frame has arrived: the synchroniser reports LODS. Answers 0 or 1.
 pub use times::lost;
@@ -26,9 +26,9 @@ pub use host::remove_port;
 // The host gives the key, which counts from the next call on. Answers 0, 1 or 10.
 pub use host::give_key;
 // HLend into a lent target. Answers 0 or 11.
-pub use framing::hlend::write_hlend;
+pub use xgtc::hlend::write_hlend;
 // An allocation structure into a lent target. Answers 0 or 11.
-pub use framing::allocation::write_allocation;
+pub use xgtc::allocation::write_allocation;
 // An XGEM header, and an XGEM frame with its SDU and padding, into a lent target. Answer 0 or 11.
 pub use framing::xgem::write_xgem;
 pub use framing::xgem::write_xgem_frame;

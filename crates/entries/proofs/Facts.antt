@@ -6,7 +6,7 @@ use mathlib.Core.Bool.{Bool, true, false, cond, _&&_, false≢true, true≢false
 use native.Mathlib.Omega.{arith}
 use lib.Dec.{ltb, eqb}
 use borrow.Author.Tests.{ltb-true, ltb-false, eqb-false}
-use Rattle.framing.specs.declared.allocation.Allocation.{Allocation}
+use Rattle.xgtc.specs.declared.allocation.Allocation.{Allocation}
 use Rattle.framing.specs.Reads.{Found, fields, unreadable, short}
 use Rattle.entries.specs.Limits.{lastStart, continuing}
 use Rattle.entries.specs.declared.Own.{Own}

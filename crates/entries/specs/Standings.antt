@@ -9,8 +9,8 @@ use Rattle.ids.specs.declared.AllocId.{AllocId}
 use Rattle.ids.specs.declared.OnuId.{OnuId}
 use Rattle.ids.specs.Ids.{sameAlloc, defaultAlloc, broadcastAlloc}
 use Rattle.hec.specs.Lent.{readingBy}
-use Rattle.framing.specs.declared.allocation.Allocation.{Allocation}
-use Rattle.framing.specs.Layouts.{allocationOf}
+use Rattle.xgtc.specs.declared.allocation.Allocation.{Allocation}
+use Rattle.xgtc.specs.Layouts.{allocationOf}
 use Rattle.framing.specs.Reads.{Found, fields, unreadable, short, readAs}
 use Rattle.station.specs.declared.Activation.{Activation}
 use Rattle.station.specs.declared.Activation.the-variants.{Initial, SerialNumber, Ranging, Operation, Intermittent, EmergencyStop}

@@ -1,16 +1,16 @@
 // The entries of the bandwidth map (clause 8.1.2), each by itself: read, usable or not, and whose it is.
 mod reading;
 
-use framing::allocation::Allocation;
-use framing::allocation::AllocationRead;
 use ids::AllocId;
 use ids::OnuId;
 use station::Activation;
 use station::held::Allocs;
+use xgtc::allocation::Allocation;
+use xgtc::allocation::AllocationRead;
 ghost use mathlib.Core.Path.{_≡_};
 ghost use mathlib.Core.Bool.{_||_, _&&_};
 ghost use lib.ListN.{take};
-ghost use Rattle.framing.specs.Reads.{foundAllocation};
+ghost use Rattle.xgtc.specs.Reads.{foundAllocation};
 ghost use Rattle.station.specs.Lists.{some};
 ghost use Rattle.ids.specs.Ids.{sameAlloc};
 ghost use Rattle.entries.specs.Standings.{isPlanned, startUnfit, noRoom, continues, held, discovery, ranging, ours, silent, sorted, standing, readBy};

@@ -1,12 +1,13 @@
 // An entry read in a walk over a map. This has one caller, so that the compiler merges it into the walk's loop; framing
 // reads for all others.
-use framing::allocation::Allocation;
-use framing::allocation::AllocationRead;
 use hec::Reading64;
+use xgtc::allocation::Allocation;
+use xgtc::allocation::AllocationRead;
 ghost use mathlib.Core.Path.{_≡_};
 ghost use Rattle.hec.specs.Reads.{found64};
-ghost use Rattle.framing.specs.Layouts.{allocationOf};
-ghost use Rattle.framing.specs.Reads.{taken, foundAllocation};
+ghost use Rattle.xgtc.specs.Layouts.{allocationOf};
+ghost use Rattle.framing.specs.Reads.{taken};
+ghost use Rattle.xgtc.specs.Reads.{foundAllocation};
 ghost use Rattle.entries.specs.Standings.{readBy};
 
 fn found(read: Reading64) -> AllocationRead

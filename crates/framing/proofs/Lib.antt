@@ -1,6 +1,5 @@
 pub mod Numbers
 pub mod Steps
-pub mod Lent
 pub mod Layouts
 pub mod Padding
 pub mod Frames

@@ -1,4 +1,4 @@
--- What is written and read again comes back equal, over the layouts of clauses 8.1 and 9.1 and in both directions: fields
+-- What is written and read again comes back equal, over the layout of clause 9.1 and in both directions: fields
 -- written and read, also with up to two bits of the header flipped, and octets read and written.
 -- Assumes nothing.
 use mathlib.Core.Path.{_≡_, refl, sym, ap, ap₂, _∙_, subst}
@@ -9,22 +9,20 @@ use native.Mathlib.Omega.{arith}
 use borrow.Author.Tests.{le-leb}
 use lib.ListN.{length, take, drop, replicate, take-append-drop, length-append, length-take, length-drop, length-replicate}
 use lib.Seq.{take-at, drop-at, length-take-le, drop-drop}
-use Rattle.hec.specs.Code.{TrueWord, distance}
+use Rattle.bch.specs.Code.{TrueWord, distance}
 use Rattle.hec.specs.Reads.{word, reading}
 use Rattle.hec.specs.Writes.{protected}
 use Rattle.hec.proofs.Words.{mends, undamaged}
 use Rattle.hec.proofs.Nearest.{reading-reads}
-use Rattle.hec.proofs.SyndromeRule.{octet-power}
+use Rattle.bch.proofs.SyndromeRule.{octet-power}
 use Rattle.framing.specs.Octets.{value, octets}
-use Rattle.framing.specs.Layouts.{hlendOf, hlendFits, hlendWord, allocationOf, allocationFits, allocationWord, xgemOf, xgemFits, xgemWord, payloadSize}
-use Rattle.framing.specs.Reads.{Found, fields, taken, readAs, readHlend, readAllocation, readXgem}
-use Rattle.framing.specs.Writes.{Left, put, wrote, writeHlend, writeAllocation, writeXgem, writeXgemFrame, carrying, padding, xgemFrame}
+use Rattle.framing.specs.Layouts.{xgemOf, xgemFits, xgemWord, payloadSize}
+use Rattle.framing.specs.Reads.{Found, fields, taken, readAs, readXgem}
+use Rattle.framing.specs.Writes.{Left, put, wrote, writeXgem, writeXgemFrame, carrying, padding, xgemFrame}
 use Rattle.framing.specs.declared.octets.Written.the-variants.{Done}
-use Rattle.framing.specs.declared.hlend.Hlend.{Hlend}
-use Rattle.framing.specs.declared.allocation.Allocation.{Allocation}
 use Rattle.framing.specs.declared.xgem.XgemHeader.{XgemHeader}
 use Rattle.framing.proofs.Numbers.{Bytes, value-lt, value-octets, octets-length, octets-value}
-use Rattle.framing.proofs.Layouts.{hlend-true, hlend-back, hlend-again, hlend-fits, allocation-true, allocation-back, allocation-again, allocation-fits, xgem-true, xgem-back, xgem-again, xgem-fits}
+use Rattle.framing.proofs.Layouts.{xgem-true, xgem-back, xgem-again, xgem-fits}
 use Rattle.framing.proofs.Frames.{frame-length, payload-length, covers}
 
 -- a structure of n octets, 8 n bits, of either length
@@ -38,16 +36,16 @@ module _ {X : Type 0} (n : ℕ) (small : n ≤ 8) (of : ℕ → X) (s : List ℕ
       (subst (λ (m : ℕ). value (take n s) < 256 ^ m) (length-take-le n s whole) (value-lt (take n s) bytes))
 
   -- a true word with up to two of its bits flipped is read as itself
-  flipped : (w : ℕ) → TrueWord (n * 8) w → distance (value (take n s)) w ≤ 2 → readAs (reading (n * 8)) n of s ≡ fields (of w)
+  pub flipped : (w : ℕ) → TrueWord (n * 8) w → distance (value (take n s)) w ≤ 2 → readAs (reading (n * 8)) n of s ≡ fields (of w)
   flipped w t d =
       rw (le-leb n (length s) whole)
       (ap (taken of) (mends (n * 8) (value (take n s)) (omega arith) word-fits w t d (reading (n * 8) (value (take n s))) (reading-reads (n * 8) (value (take n s)) (omega arith) word-fits)))
 
   -- and a true word as it stands gives its fields, whose word has these octets
-  clean : TrueWord (n * 8) (value (take n s)) → readAs (reading (n * 8)) n of s ≡ fields (of (value (take n s)))
+  pub clean : TrueWord (n * 8) (value (take n s)) → readAs (reading (n * 8)) n of s ≡ fields (of (value (take n s)))
   clean t = flipped (value (take n s)) t (undamaged (value (take n s)))
 
-  again : (w : ℕ) → w ≡ value (take n s) → put s (octets n w) ≡ s
+  pub again : (w : ℕ) → w ≡ value (take n s) → put s (octets n w) ≡ s
   again w e =
       ap (put s) (ap (octets n) e ∙ ap (λ (m : ℕ). octets m (value (take n s))) (sym (length-take-le n s whole)) ∙ octets-value (take n s) bytes)
       ∙ ap (λ (m : ℕ). take n s ++ drop m s) (length-take-le n s whole) ∙ take-append-drop n s
@@ -61,54 +59,18 @@ module _ {X : Type 0} (n : ℕ) (small : n ≤ 8) (of : ℕ → X) (w : ℕ) (t 
   front : take n (octets n w ++ rest) ≡ octets n w
   front = take-at (octets n w) rest n (octets-length n w)
 
-  stands : readAs (reading (n * 8)) n of (octets n w ++ rest) ≡ fields (of w)
+  pub stands : readAs (reading (n * 8)) n of (octets n w ++ rest) ≡ fields (of w)
   stands =
       flipped n small of (octets n w ++ rest) (omega (arith, length-append (octets n w) rest, octets-length n w))
       (subst Bytes (sym front) (octets-bytes n w)) w t
       (subst (λ (v : ℕ). distance v w ≤ 2) (sym (ap value front ∙ value-octets n w (subst (λ (m : ℕ). w < m) (octet-power n) (t .fits)))) (undamaged w))
 
 -- a writer whose fields fit and whose target has room
-wrote-done : (fits : Bool) (s t : List ℕ) → fits ≡ true → length s ≤ length t → wrote fits s t ≡ record { answer = Done; target = put t s }
+pub wrote-done : (fits : Bool) (s t : List ℕ) → fits ≡ true → length s ≤ length t → wrote fits s t ≡ record { answer = Done; target = put t s }
 wrote-done fits s t e h = rw (e, le-leb (length s) (length t) h)
 
-same-fields : {X : Type 0} {x y : X} {r : Found X} → r ≡ fields x → r ≡ fields y → x ≡ y
+pub same-fields : {X : Type 0} {x y : X} {r : Found X} → r ≡ fields x → r ≡ fields y → x ≡ y
 same-fields p q = cc
-
--- HLend
-module _ (h : Hlend) (fits : hlendFits h ≡ true) where
-  pub hlend-written-read : (t : List ℕ) → 4 ≤ length t → readHlend (writeHlend h t .target) ≡ fields h
-  hlend-written-read t room =
-      rw (wrote-done (hlendFits h) (octets 4 (hlendWord h)) t fits room)
-      (stands 4 (omega arith) hlendOf (hlendWord h) (hlend-true h fits .true) (drop 4 t) ∙ ap fields (hlend-back h fits))
-
-  pub hlend-mended : (s : List ℕ) → 4 ≤ length s → Bytes (take 4 s) → distance (value (take 4 s)) (hlendWord h) ≤ 2 → readHlend s ≡ fields h
-  hlend-mended s room bytes d = flipped 4 (omega arith) hlendOf s room bytes (hlendWord h) (hlend-true h fits .true) d ∙ ap fields (hlend-back h fits)
-
-pub hlend-read-written : (s : List ℕ) (h : Hlend) → 4 ≤ length s → Bytes (take 4 s) → TrueWord 32 (value (take 4 s)) → readHlend s ≡ fields h
-    → writeHlend h s ≡ record { answer = Done; target = s }
-hlend-read-written s h room bytes t r =
-    let e : hlendOf (value (take 4 s)) ≡ h = same-fields (clean 4 (omega arith) hlendOf s room bytes t) r in
-    wrote-done (hlendFits h) (octets 4 (hlendWord h)) s (ap hlendFits (sym e) ∙ hlend-fits (value (take 4 s))) room
-    ∙ ap (λ (l : List ℕ). record { answer = Done; target = l })
-    (again 4 (omega arith) hlendOf s room bytes (hlendWord h) (ap hlendWord (sym e) ∙ hlend-again (value (take 4 s)) t))
-
--- The allocation structure
-module _ (a : Allocation) (fits : allocationFits a ≡ true) where
-  pub allocation-written-read : (t : List ℕ) → 8 ≤ length t → readAllocation (writeAllocation a t .target) ≡ fields a
-  allocation-written-read t room =
-      rw (wrote-done (allocationFits a) (octets 8 (allocationWord a)) t fits room)
-      (stands 8 (omega arith) allocationOf (allocationWord a) (allocation-true a fits .true) (drop 8 t) ∙ ap fields (allocation-back a fits))
-
-  pub allocation-mended : (s : List ℕ) → 8 ≤ length s → Bytes (take 8 s) → distance (value (take 8 s)) (allocationWord a) ≤ 2 → readAllocation s ≡ fields a
-  allocation-mended s room bytes d = flipped 8 (omega arith) allocationOf s room bytes (allocationWord a) (allocation-true a fits .true) d ∙ ap fields (allocation-back a fits)
-
-pub allocation-read-written : (s : List ℕ) (a : Allocation) → 8 ≤ length s → Bytes (take 8 s) → TrueWord 64 (value (take 8 s)) → readAllocation s ≡ fields a
-    → writeAllocation a s ≡ record { answer = Done; target = s }
-allocation-read-written s a room bytes t r =
-    let e : allocationOf (value (take 8 s)) ≡ a = same-fields (clean 8 (omega arith) allocationOf s room bytes t) r in
-    wrote-done (allocationFits a) (octets 8 (allocationWord a)) s (ap allocationFits (sym e) ∙ allocation-fits (value (take 8 s))) room
-    ∙ ap (λ (l : List ℕ). record { answer = Done; target = l })
-    (again 8 (omega arith) allocationOf s room bytes (allocationWord a) (ap allocationWord (sym e) ∙ allocation-again (value (take 8 s)) t))
 
 -- The XGEM header
 module _ (x : XgemHeader) (fits : xgemFits x ≡ true) where

@@ -7,13 +7,7 @@ use lib.Dec.{leb}
 use lib.ListN.{length, take}
 use Rattle.hec.specs.Reads.{Reading, word, unreadable as unreadable-word, reading}
 use Rattle.framing.specs.Octets.{value}
-use Rattle.framing.specs.Layouts.{hlendOf, allocationOf, xgemOf}
-use Rattle.framing.specs.declared.hlend.Hlend.{Hlend}
-use Rattle.framing.specs.declared.hlend.HlendRead.{HlendRead}
-use Rattle.framing.specs.declared.hlend.HlendRead.the-variants.{Fields as HlendFields, Unreadable as HlendUnreadable, Short as HlendShort}
-use Rattle.framing.specs.declared.allocation.Allocation.{Allocation}
-use Rattle.framing.specs.declared.allocation.AllocationRead.{AllocationRead}
-use Rattle.framing.specs.declared.allocation.AllocationRead.the-variants.{Fields as AllocationFields, Unreadable as AllocationUnreadable, Short as AllocationShort}
+use Rattle.framing.specs.Layouts.{xgemOf}
 use Rattle.framing.specs.declared.xgem.XgemHeader.{XgemHeader}
 use Rattle.framing.specs.declared.xgem.XgemRead.{XgemRead}
 use Rattle.framing.specs.declared.xgem.XgemRead.the-variants.{Fields as XgemFields, Unreadable as XgemUnreadable, Short as XgemShort}
@@ -32,26 +26,10 @@ taken of unreadable-word = unreadable
 abbrev pub readAs : {X : Type 0} → (ℕ → Reading) → ℕ → (ℕ → X) → List ℕ → Found X
 readAs read n of s = cond (leb n (length s)) (taken of (read (value (take n s)))) short
 
-abbrev pub readHlend : List ℕ → Found Hlend
-readHlend s = readAs (reading 32) 4 hlendOf s
-
-abbrev pub readAllocation : List ℕ → Found Allocation
-readAllocation s = readAs (reading 64) 8 allocationOf s
-
 abbrev pub readXgem : List ℕ → Found XgemHeader
 readXgem s = readAs (reading 64) 8 xgemOf s
 
 -- the code's answers
-abbrev pub foundHlend : HlendRead → Found Hlend
-foundHlend (HlendFields h) = fields h
-foundHlend HlendUnreadable = unreadable
-foundHlend HlendShort = short
-
-abbrev pub foundAllocation : AllocationRead → Found Allocation
-foundAllocation (AllocationFields a) = fields a
-foundAllocation AllocationUnreadable = unreadable
-foundAllocation AllocationShort = short
-
 abbrev pub foundXgem : XgemRead → Found XgemHeader
 foundXgem (XgemFields x) = fields x
 foundXgem XgemUnreadable = unreadable

@@ -7,9 +7,7 @@ use lib.Dec.{leb}
 use lib.ListN.{length, drop, replicate}
 use Rattle.ids.specs.declared.PortId.{PortId}
 use Rattle.framing.specs.Octets.{octets}
-use Rattle.framing.specs.Layouts.{hlendFits, hlendWord, allocationFits, allocationWord, xgemFits, xgemWord, payloadSize}
-use Rattle.framing.specs.declared.hlend.Hlend.{Hlend}
-use Rattle.framing.specs.declared.allocation.Allocation.{Allocation}
+use Rattle.framing.specs.Layouts.{xgemFits, xgemWord, payloadSize}
 use Rattle.framing.specs.declared.xgem.XgemHeader.{XgemHeader}
 use Rattle.framing.specs.declared.octets.Written.{Written}
 use Rattle.framing.specs.declared.octets.Written.the-variants.{Done, Refused}
@@ -30,12 +28,6 @@ put t s = s ++ drop (length s) t
 
 abbrev pub wrote : Bool → List ℕ → List ℕ → Left
 wrote fits s t = cond (fits && leb (length s) (length t)) (record { answer = Done; target = put t s }) (record { answer = Refused; target = t })
-
-abbrev pub writeHlend : Hlend → List ℕ → Left
-writeHlend h t = wrote (hlendFits h) (octets 4 (hlendWord h)) t
-
-abbrev pub writeAllocation : Allocation → List ℕ → Left
-writeAllocation a t = wrote (allocationFits a) (octets 8 (allocationWord a)) t
 
 abbrev pub writeXgem : XgemHeader → List ℕ → Left
 writeXgem x t = wrote (xgemFits x) (octets 8 (xgemWord x)) t

@@ -16,12 +16,6 @@ pub enum Written {
 }
 
 // Numbers above a byte, so that what a byte times a power needs is known.
-fn wide32(x: u8) -> u32
-    ensures { λ r. ⌜ (r ≡ x) × (r < 256) ⌝ }
-{
-    x as u32
-}
-
 fn wide64(x: u8) -> u64
     ensures { λ r. ⌜ (r ≡ x) × (r < 256) ⌝ }
 {
@@ -29,17 +23,10 @@ fn wide64(x: u8) -> u64
 }
 
 // A mark of one bit.
-pub(crate) fn bit(set: bool) -> u64
+pub fn bit(set: bool) -> u64
     ensures { λ r. ⌜ (r ≡ bit set) × (r < 2) ⌝ }
 {
     if set { 1 } else { 0 }
-}
-
-pub(crate) fn word32(s: &[u8]) -> u32
-    requires { ⌜ 4 ≤ length (now s) ⌝ }
-    ensures { λ r. ⌜ r ≡ value (take 4 (now (s .entry))) ⌝ }
-{
-    wide32(s[0]) * 0x100_0000 + (wide32(s[1]) * 0x1_0000 + (wide32(s[2]) * 0x100 + wide32(s[3])))
 }
 
 // Each sum is taken on by the next octet: walks were slower with a sum of eight products.
@@ -67,16 +54,6 @@ pub fn word_ahead(s: &[u8]) -> u64
     if s.len() < 8 { 0 } else { word64(s) }
 }
 
-fn put32(target: &mut [u8], word: u32)
-    requires { ⌜ 4 ≤ length (now target) ⌝ }
-    ensures { λ _. ⌜ now (target .exit) ≡ put (now (target .entry)) (octets 4 word) ⌝ }
-{
-    target[0] = (word / 0x100_0000 % 256) as u8;
-    target[1] = (word / 0x1_0000 % 256) as u8;
-    target[2] = (word / 0x100 % 256) as u8;
-    target[3] = (word / 1 % 256) as u8;
-}
-
 pub(crate) fn put64(target: &mut [u8], word: u64)
     requires { ⌜ 8 ≤ length (now target) ⌝ }
     ensures { λ _. ⌜ now (target .exit) ≡ put (now (target .entry)) (octets 8 word) ⌝ }
@@ -92,20 +69,7 @@ pub(crate) fn put64(target: &mut [u8], word: u64)
 }
 
 // The protected word of the data bits at the start of a target, where they fit their fields and the target has room.
-pub(crate) fn write32(fits: bool, bits: u32, target: &mut [u8]) -> Written
-    ensures { λ r. ⌜ record { answer = r; target = now (target .exit) } ≡ wrote fits (octets 4 (protected (bits % 2 ^ 19))) (now (target .entry)) ⌝ }
-{
-    if !fits {
-        return Written::Refused;
-    }
-    if target.len() < 4 {
-        return Written::Refused;
-    }
-    put32(target, hec::write32(bits).bits());
-    Written::Done
-}
-
-pub(crate) fn write64(fits: bool, bits: u64, target: &mut [u8]) -> Written
+pub fn write64(fits: bool, bits: u64, target: &mut [u8]) -> Written
     ensures { λ r. ⌜ record { answer = r; target = now (target .exit) } ≡ wrote fits (octets 8 (protected (bits % 2 ^ 51))) (now (target .entry)) ⌝ }
 {
     if !fits {

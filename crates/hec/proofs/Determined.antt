@@ -1,14 +1,10 @@
 -- No second outcome meets the contract of a public function: for each, any two that do are equal.
 -- Assumes nothing.
 use mathlib.Core.Path.{_≡_, refl, sym, ap, _∙_}
-use mathlib.Core.List.{List}
-use Prim.Native.Nat.{ℕ, _+_, _*_, _/_, _%_, _^_, _≤_, _<_}
+use Prim.Native.Nat.{ℕ, _^_, _≤_, _<_}
 use native.Mathlib.Omega.{arith}
-use lib.ListN.{length, getD}
-use lib.Seq.{ext-getD}
 use Rattle.hec.specs.Reads.{Reading, word, unreadable, Reads, found32, found64}
 use Rattle.hec.specs.Writes.{Written}
-use Rattle.hec.specs.Lent.{Remainders, Syndromes}
 use Rattle.hec.specs.declared.Word32.{Word32}
 use Rattle.hec.specs.declared.Word64.{Word64}
 use Rattle.hec.specs.declared.Reading32.{Reading32}
@@ -51,15 +47,3 @@ write32-once d a b p q = ap (λ (x : ℕ). record { 0 = x }) (written-once 32 d 
 
 pub write64-once : (d : ℕ) (a b : Word64) → Written 64 d (a .0) → Written 64 d (b .0) → a ≡ b
 write64-once d a b p q = ap (λ (x : ℕ). record { 0 = x }) (written-once 64 d (a .0) (b .0) (omega arith) p q)
-
--- remainders::table, syndromes::table. (flips::table is free where no pattern of two bits leads: docs/CONTRACTS.md)
-pub remainders-once : (a b : List ℕ) → length a ≡ 63 → length b ≡ 63 → Remainders a → Remainders b → a ≡ b
-remainders-once a b la lb p q = ext-getD 0 a b (la ∙ sym lb) (λ i h. p i (omega arith) ∙ sym (q i (omega arith)))
-
-pub syndromes-once : (a b : List ℕ) → length a ≡ 2048 → length b ≡ 2048 → Syndromes a → Syndromes b → a ≡ b
-syndromes-once a b la lb p q =
-    ext-getD 0 a b (la ∙ sym lb)
-    (λ i h.
-    let e : i / 256 * 256 + i % 256 ≡ i = omega arith in
-    ap (λ (k : ℕ). getD a k 0) (sym e) ∙ p (i / 256) (i % 256) (omega arith) (omega arith)
-    ∙ sym (q (i / 256) (i % 256) (omega arith) (omega arith)) ∙ ap (λ (k : ℕ). getD b k 0) e)

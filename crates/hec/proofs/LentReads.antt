@@ -13,16 +13,17 @@ use lib.Pow.{pow-pos, pow-lt, pow-mono, shl-exact}
 use lib.Bits.{bitXor, xor-lt, xor-zero-r}
 use lib.Count.{ones, ones-step, ones-cat, ones-ones}
 use lib.ListN.{getD}
-use Rattle.hec.specs.Code.{TrueWord, distance, place, remainder}
+use Rattle.bch.specs.Code.{TrueWord, distance, place, remainder}
 use Rattle.hec.specs.Reads.{Reading, word, unreadable, Reads, reading}
-use Rattle.hec.specs.Lent.{syndrome, Syndromes, Flips, bitsOf, countsOf, lastBit, mendedBy, readingBy, sent, syndromeBy}
-use Rattle.hec.proofs.Xor.{bit, xor-half, xor-cancel}
-use Rattle.hec.proofs.Ones.{half-lt, ones-bit, ones-xor-le, ones-xor-odd}
-use Rattle.hec.proofs.Places.{bits-within}
-use Rattle.hec.proofs.Syndrome.{syndrome-parts, syndrome-made, syndrome-true, syndrome-lt}
+use Rattle.bch.specs.Tables.{syndrome, Syndromes, Flips, bitsOf, countsOf}
+use Rattle.hec.specs.Lent.{lastBit, mendedBy, readingBy, sent, syndromeBy}
+use Rattle.bch.proofs.Xor.{bit, xor-half, xor-cancel}
+use Rattle.bch.proofs.Ones.{half-lt, ones-bit, ones-xor-le, ones-xor-odd}
+use Rattle.bch.proofs.Places.{bits-within}
+use Rattle.bch.proofs.Syndrome.{syndrome-parts, syndrome-made, syndrome-true, syndrome-lt}
 use Rattle.hec.proofs.Words.{Flaw, code-few, flaw-near, near-flaw, one-near, undamaged}
 use Rattle.hec.proofs.Nearest.{is-reading}
-use Rattle.hec.proofs.SyndromeRule.{word-syndrome}
+use Rattle.hec.proofs.SyndromeSum.{word-syndrome}
 
 -- the last bit brings the parity to p
 parity : (all some count b p : ℕ) → all % 2 ≡ (some + b) % 2 → some % 2 ≡ count % 2 → b ≡ (count + p) % 2 → p < 2 → all % 2 ≡ p

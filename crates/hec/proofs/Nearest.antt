@@ -10,12 +10,12 @@ use lib.Arith.{lt-one, le-zero}
 use lib.Pow.{pow-pos}
 use lib.Bits.{bitXor, xor-zero-r, xor-lt, xor-shifted}
 use lib.Count.{ones, ones-cat, ones-ones}
-use Rattle.hec.specs.Code.{TrueWord, distance, isTrue}
+use Rattle.bch.specs.Code.{TrueWord, distance, isTrue}
 use Rattle.hec.specs.Reads.{Reading, word, unreadable, Reads, orElse, mended, reading}
-use Rattle.hec.specs.Lent.{syndrome}
-use Rattle.hec.proofs.Xor.{xor-assoc, xor-cancel}
-use Rattle.hec.proofs.Ones.{ones-none}
-use Rattle.hec.proofs.Syndrome.{syndrome-true, true-syndrome, tested-true, true-tested}
+use Rattle.bch.specs.Tables.{syndrome}
+use Rattle.bch.proofs.Xor.{xor-assoc, xor-cancel}
+use Rattle.bch.proofs.Ones.{ones-none}
+use Rattle.bch.proofs.Syndrome.{syndrome-true, true-syndrome, tested-true, true-tested}
 use Rattle.hec.proofs.Words.{settled}
 
 -- a pattern of at most m of the n lowest bits

@@ -7,15 +7,15 @@ use native.Mathlib.Omega.{arith}
 use lib.Pow.{pow-add, shr-shr}
 use lib.Bits.{bitXor, xor-zero-r, xor-self, xor-shifted, xor-shr}
 use lib.Count.{ones, ones-cat, ones-step}
-use Rattle.hec.specs.Code.{TrueWord, remainder}
+use Rattle.bch.specs.Code.{TrueWord, remainder}
 use Rattle.hec.specs.Writes.{protected, closed, Written}
-use Rattle.hec.specs.Lent.{syndrome}
-use Rattle.hec.proofs.Xor.{xor-cancel}
-use Rattle.hec.proofs.Ones.{ones-bit}
-use Rattle.hec.proofs.Linear.{rem-xor}
-use Rattle.hec.proofs.Range.{remainder-lt}
-use Rattle.hec.proofs.Low.{low-remainder}
-use Rattle.hec.proofs.Syndrome.{syndrome-made, syndrome-parts, syndrome-true, true-syndrome}
+use Rattle.bch.specs.Tables.{syndrome}
+use Rattle.bch.proofs.Xor.{xor-cancel}
+use Rattle.bch.proofs.Ones.{ones-bit}
+use Rattle.bch.proofs.Linear.{rem-xor}
+use Rattle.bch.proofs.Range.{remainder-lt}
+use Rattle.bch.proofs.Low.{low-remainder}
+use Rattle.bch.proofs.Syndrome.{syndrome-made, syndrome-parts, syndrome-true, true-syndrome}
 
 closed-true : (k c : ℕ) → suc k ≤ 64 → c < 2 ^ k → remainder c ≡ 0 → TrueWord (suc k) (closed c)
 closed-true k c wide h e =

@@ -8,7 +8,8 @@ use borrow.Author.Tests.{eq-eqb, ne-eqb, le-leb, lt-leb, lt-ltb, le-ltb}
 use lib.Bits.{bitXor}
 use lib.Dec.{eqb, leb, ltb}
 use Rattle.hec.specs.Reads.{Reading, word, unreadable}
-use Rattle.hec.specs.Lent.{bitsOf, countsOf, lastBit, mendedAs, mendedBy, readingBy, sent, syndromeBy}
+use Rattle.bch.specs.Tables.{bitsOf, countsOf}
+use Rattle.hec.specs.Lent.{lastBit, mendedAs, mendedBy, readingBy, sent, syndromeBy}
 
 module _ (t f : List ℕ) (o w s : ℕ) (e : s ≡ syndromeBy t o 0 w) where
   pub clean : s ≡ 0 → word w ≡ readingBy t f o w

@@ -9,13 +9,13 @@ use lib.Pow.{pow-mono}
 use lib.Bits.{bitXor, xor-zero-r, xor-lt, xor-self}
 use lib.Count.{ones, ones-step, ones-ones}
 use lib.ListN.{getD}
-use Rattle.hec.specs.Code.{TrueWord, distance, remainder}
+use Rattle.bch.specs.Code.{TrueWord, distance, remainder}
 use Rattle.hec.specs.Reads.{Reading, word, unreadable, Reads}
-use Rattle.hec.specs.Lent.{syndrome, bitsOf}
-use Rattle.hec.proofs.Xor.{bit, xor-cancel}
-use Rattle.hec.proofs.Ones.{half-lt}
-use Rattle.hec.proofs.Syndrome.{syndrome-xor, syndrome-parts, true-syndrome, syndrome-true}
-use Rattle.hec.proofs.FlipRule.{flips, rule}
+use Rattle.bch.specs.Tables.{syndrome, bitsOf}
+use Rattle.bch.proofs.Xor.{bit, xor-cancel}
+use Rattle.bch.proofs.Ones.{half-lt}
+use Rattle.bch.proofs.Syndrome.{syndrome-xor, syndrome-parts, true-syndrome, syndrome-true}
+use Rattle.bch.proofs.FlipRule.{flips, rule}
 
 -- a pattern of at most two of n bits, with the syndrome s
 pub record Flaw (n s e : ℕ) : Type 0 where

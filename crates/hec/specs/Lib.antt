@@ -1,4 +1,3 @@
-pub mod Code
 pub mod Reads
 pub mod Writes
 pub mod Lent

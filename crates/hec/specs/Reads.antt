@@ -4,7 +4,7 @@ use mathlib.Core.Path.{_≡_}
 use mathlib.Core.Bool.{cond}
 use Prim.Native.Nat.{ℕ, zero, suc, _^_, _≤_}
 use lib.Bits.{bitXor}
-use Rattle.hec.specs.Code.{TrueWord, distance, isTrue}
+use Rattle.bch.specs.Code.{TrueWord, distance, isTrue}
 use Rattle.hec.specs.declared.Word32.{Word32}
 use Rattle.hec.specs.declared.Word64.{Word64}
 use Rattle.hec.specs.declared.Reading32.{Reading32}

@@ -3,7 +3,7 @@
 use mathlib.Core.Path.{_≡_}
 use Prim.Native.Nat.{ℕ, _+_, _*_, _/_, _%_, _^_}
 use lib.Count.{ones}
-use Rattle.hec.specs.Code.{TrueWord, remainder}
+use Rattle.bch.specs.Code.{TrueWord, remainder}
 
 -- the true word of n bits whose bits before the last 13 are d
 pub record Written (n d v : ℕ) : Type 0 where

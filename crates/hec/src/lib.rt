@@ -7,10 +7,7 @@ ghost use Rattle.hec.specs.Writes.{Written};
 ghost use Rattle.hec.specs.Lent.{readingBy, sent};
 
 mod damage;
-pub mod flips;
 mod protect;
-pub mod remainders;
-pub mod syndromes;
 
 use damage::Mended;
 
@@ -50,8 +47,8 @@ impl Word64 {
 pub fn read64(word: u64) -> Reading64
     ensures { λ r. ⌜ Reads 64 word (found64 r) ⌝ }
 {
-    let syndromes = syndromes::table();
-    let flips = flips::table();
+    let syndromes = bch::syndromes::table();
+    let flips = bch::flips::table();
     read64_by(&syndromes, &flips, word)
 }
 
@@ -59,8 +56,8 @@ pub fn read64(word: u64) -> Reading64
 pub fn read32(word: u32) -> Reading32
     ensures { λ r. ⌜ Reads 32 word (found32 r) ⌝ }
 {
-    let syndromes = syndromes::table();
-    let flips = flips::table();
+    let syndromes = bch::syndromes::table();
+    let flips = bch::flips::table();
     read32_by(&syndromes, &flips, word)
 }
 

@@ -1,14 +1,13 @@
 // The bits behind the data bits: their remainder, and the one that makes the number of ones even.
-use super::remainders;
 ghost use mathlib.Core.Path.{_≡_};
 ghost use Prim.Native.Nat.{_+_, _*_, _%_, _^_, _<_};
-ghost use Rattle.hec.specs.Code.{remainder};
+ghost use Rattle.bch.specs.Code.{remainder};
 ghost use Rattle.hec.specs.Writes.{closed, protected};
 
 fn remainder_of(code: u64) -> u16
     ensures { λ r. ⌜ r ≡ remainder code ⌝ }
 {
-    let table = remainders::table();
+    let table = bch::remainders::table();
     let mut sum: u16 = 0;
     let mut left = code;
     let mut place: usize = 0;

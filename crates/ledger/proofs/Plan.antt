@@ -8,7 +8,7 @@ use mathlib.Core.List.{List}
 use lib.Dec.{eqb, leb}
 use borrow.Author.Tests.{eqb-true, eq-eqb, leb-true, le-leb}
 use Rattle.ids.specs.Ids.{sameAlloc, broadcastAlloc}
-use Rattle.framing.specs.declared.allocation.Allocation.{Allocation}
+use Rattle.xgtc.specs.declared.allocation.Allocation.{Allocation}
 use Rattle.station.specs.declared.Activation.{Activation}
 use Rattle.station.specs.declared.Activation.the-variants.{Initial, SerialNumber, Ranging, Operation, Intermittent, EmergencyStop}
 use Rattle.station.specs.declared.Station.{Station}

@@ -10,7 +10,8 @@ use lib.Dec.{leb}
 use lib.ListN.{length, getD, take}
 use lib.Seq.{length-take-le}
 use Rattle.hec.specs.Reads.{Reading, word, unreadable as unreadable-word, reading}
-use Rattle.hec.specs.Lent.{Syndromes, Flips, readingBy}
+use Rattle.bch.specs.Tables.{Syndromes, Flips}
+use Rattle.hec.specs.Lent.{readingBy}
 use Rattle.hec.proofs.LentReads.{lent64}
 use Rattle.framing.specs.declared.xgem.XgemHeader.{XgemHeader}
 use Rattle.framing.specs.Octets.{value}

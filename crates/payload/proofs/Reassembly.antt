@@ -11,7 +11,7 @@ use lib.Dec.{eqb, ltb}
 use lib.ListN.{length, getD, take, drop, set, length-append, length-set}
 use lib.Seq.{drop-at, getD-set-same}
 use Rattle.ids.specs.declared.PortId.{PortId}
-use Rattle.hec.specs.Code.{distance}
+use Rattle.bch.specs.Code.{distance}
 use Rattle.hec.proofs.Words.{undamaged}
 use Rattle.framing.specs.declared.xgem.XgemHeader.{XgemHeader}
 use Rattle.framing.specs.Octets.{value, octets}

@@ -1,7 +1,7 @@
 // An unfragmented SDU as its own stretch of the payload. The search decides as the walk does, and touches no memory.
 ghost use mathlib.Core.Path.{_≡_};
 ghost use lib.ListN.{length};
-ghost use Rattle.hec.specs.Lent.{Syndromes, Flips};
+ghost use Rattle.bch.specs.Tables.{Syndromes, Flips};
 ghost use Rattle.fragments.specs.Within.{Within};
 ghost use Rattle.payload.specs.Frames.{nextOf};
 ghost use Rattle.payload.specs.Inside.{Inside};
@@ -125,8 +125,8 @@ fn moved(ports: Ports, effect: Effect, n: usize) -> Ports
 pub fn stretch_place(ports: Ports, own: PortId, payload: &[u8], k: usize) -> StretchPlace
     ensures { λ r. ⌜ r ≡ stretchOf own ports (now (payload .entry)) k ⌝ }
 {
-    let syndromes = hec::syndromes::table();
-    let flips = hec::flips::table();
+    let syndromes = bch::syndromes::table();
+    let flips = bch::flips::table();
     let mut held = ports;
     let mut seek = Seek::Ahead(k);
     let mut at: usize = 0;

@@ -1,7 +1,7 @@
 // The next XGEM frame of what is left of a payload.
 ghost use mathlib.Core.Path.{_≡_};
 ghost use lib.ListN.{length};
-ghost use Rattle.hec.specs.Lent.{Syndromes, Flips};
+ghost use Rattle.bch.specs.Tables.{Syndromes, Flips};
 ghost use Rattle.payload.specs.Frames.{nextOf};
 ghost use Rattle.payload.specs.Inside.{Inside};
 use framing::xgem;

@@ -2,7 +2,7 @@
 ghost use mathlib.Core.Path.{_≡_};
 ghost use Prim.Native.Nat.{_+_, _≤_};
 ghost use lib.ListN.{length};
-ghost use Rattle.hec.specs.Lent.{Syndromes, Flips};
+ghost use Rattle.bch.specs.Tables.{Syndromes, Flips};
 ghost use Rattle.station.specs.Slots.{dropAll};
 ghost use Rattle.payload.specs.Bounds.{Ready};
 ghost use Rattle.payload.specs.Walk.{walkOf, allWithin, receiveOf};
@@ -187,8 +187,8 @@ pub fn receive(
 ) -> Received
     ensures { λ r. ⌜ record { receiver = record { ports = r .ports; bytes = r .bytes; memory = now (memory .exit); deliveries = now (deliveries .exit) }; delineation = r .delineation } ≡ receiveOf ports own (now (memory .entry)) (now (deliveries .entry)) place (now (payload .entry)) ⌝ }
 {
-    let syndromes = hec::syndromes::table();
-    let flips = hec::flips::table();
+    let syndromes = bch::syndromes::table();
+    let flips = bch::flips::table();
     receive_by(
         &syndromes,
         &flips,

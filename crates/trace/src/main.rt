@@ -63,8 +63,8 @@ fn finish(run: Run, kept: usize, text: &mut [u8])
 // A proved loop has to end, and nothing says that the input does: the turns are counted down from a number that no run
 // uses up.
 fn main() {
-    let syndromes = hec::syndromes::table();
-    let flips = hec::flips::table();
+    let syndromes = bch::syndromes::table();
+    let flips = bch::flips::table();
     let mix = aes::table::MIX;
     let mut input = [0u8; 65536];
     let mut memory = [0u8; 34816];

@@ -264,7 +264,7 @@ fn three_flips(
 }
 
 fn table_a1() {
-    let remainders = hec::remainders::table();
+    let remainders = bch::remainders::table();
     let printed = TABLE_A1;
     let mut right: u64 = 0;
     let mut k: usize = 0;
@@ -286,8 +286,8 @@ struct Counts {
 }
 
 fn stands(mut c: Counts, bits: u32, word: u64, written: u64) -> Counts {
-    let syndromes = hec::syndromes::table();
-    let flips = hec::flips::table();
+    let syndromes = bch::syndromes::table();
+    let flips = bch::flips::table();
     let found = read(&syndromes, &flips, bits == 32, word);
     c.read = counted(c.read, one_if(is_wanted(found, true, word)));
     c.written = counted(c.written, one_if(written == word));
@@ -297,8 +297,8 @@ fn stands(mut c: Counts, bits: u32, word: u64, written: u64) -> Counts {
 fn flipped(mut c: Counts, bits: u32, word: u64) -> Counts
     requires { ⌜ bits ≤ 64 ⌝ }
 {
-    let s = hec::syndromes::table();
-    let f = hec::flips::table();
+    let s = bch::syndromes::table();
+    let f = bch::flips::table();
     let one = one_flip(&s, &f, bits, true, word, word, bits);
     let two = two_flips(&s, &f, bits, true, word, word, bits);
     let three = three_flips(&s, &f, bits, word, word);
@@ -387,9 +387,9 @@ fn unsent_at(
 }
 
 fn unsent_zeros() {
-    let syndromes = hec::syndromes::table();
-    let remainders = hec::remainders::table();
-    let flips = hec::flips::table();
+    let syndromes = bch::syndromes::table();
+    let remainders = bch::remainders::table();
+    let flips = bch::flips::table();
     let mut right: u64 = 0;
     let mut k: usize = 31;
     while k < 63 {

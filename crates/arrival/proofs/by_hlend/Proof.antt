@@ -3,8 +3,8 @@ use native.Mathlib.Omega.{arith}
 use borrow.Author.Tests.{lt-leb, le-leb}
 use denote.Ref.{now}
 use lib.ListN.{length}
-use Rattle.framing.specs.Reads.{foundHlend, readHlend}
-use Rattle.framing.proofs.Lent.{lent-hlend}
+use Rattle.xgtc.specs.Reads.{foundHlend, readHlend}
+use Rattle.xgtc.proofs.Lent.{lent-hlend}
 use Rattle.arrival.specs.Partitions.{headerEnd}
 use borrow.Author.Needs.{needs}
 use Rattle.arrival.proofs.by_hlend.Statement.{statement}
@@ -14,7 +14,7 @@ use Rattle.arrival.proofs.by_hlend.Lts as lts
 use Rattle.arrival.proofs.handle.Reads as handle-reads
 use Rattle.arrival.proofs.without.Reads as without-reads
 use Rattle.arrival.proofs.partitions.header_end.Reads as header-end-reads
-use Rattle.framing.proofs.hlend.read_hlend_by.Reads as read-hlend-by-reads
+use Rattle.xgtc.proofs.hlend.read_hlend_by.Reads as read-hlend-by-reads
 use Rattle.timing.proofs.unread_time.Reads as unread-time-reads
 
 -- the lent tables are the true ones

@@ -11,8 +11,8 @@ use Rattle.arrival.proofs.by_hlend.Reads as by-hlend-reads
 use Rattle.arrival.proofs.without.Reads as without-reads
 use Rattle.arrival.proofs.lengths.enough.Reads as enough-reads
 use Rattle.arrival.proofs.lengths.length_fits.Reads as length-fits-reads
-use Rattle.hec.proofs.flips.table.Reads as flips-table-reads
-use Rattle.hec.proofs.syndromes.table.Reads as syndromes-table-reads
+use Rattle.bch.proofs.flips.table.Reads as flips-table-reads
+use Rattle.bch.proofs.syndromes.table.Reads as syndromes-table-reads
 use Rattle.ranges.proofs.in_range.Reads as in-range-reads
 
 -- src/arrival.rt:304:9

@@ -8,8 +8,8 @@ use Rattle.trace.proofs.main.Statement.{statement}
 use Rattle.trace.proofs.main.Tie as tie
 use Rattle.trace.proofs.main.Reads as reads
 use Rattle.trace.proofs.main.Lts as lts
-use Rattle.hec.proofs.flips.table.Reads as flips-table-reads
-use Rattle.hec.proofs.syndromes.table.Reads as syndromes-table-reads
+use Rattle.bch.proofs.flips.table.Reads as flips-table-reads
+use Rattle.bch.proofs.syndromes.table.Reads as syndromes-table-reads
 use Rattle.trace.proofs.blocks.turn.Reads as turn-reads
 use Rattle.trace.proofs.finish.Reads as finish-reads
 use Rattle.trace.proofs.read_on.Reads as read-on-reads

@@ -3,8 +3,8 @@
 use mathlib.Core.Path.{_∙_, sym, ap}
 use native.Mathlib.Omega.{arith}
 use denote.Ref.{now}
-use Rattle.framing.specs.Reads.{foundAllocation}
-use Rattle.framing.specs.declared.allocation.AllocationRead.{AllocationRead}
+use Rattle.xgtc.specs.Reads.{foundAllocation}
+use Rattle.xgtc.specs.declared.allocation.AllocationRead.{AllocationRead}
 use Rattle.bwmap.specs.Turns.{fieldsOf, allocationAt}
 use Rattle.bwmap.proofs.Reading.{read-entry}
 use borrow.Author.Needs.{needs}

@@ -3,7 +3,7 @@ use native.Mathlib.Omega.{arith}
 use borrow.Author.Tests.{not-true, not-false, lt-leb, le-leb}
 use denote.Ref.{now}
 use lib.ListN.{length}
-use Rattle.framing.specs.Reads.{foundHlend}
+use Rattle.xgtc.specs.Reads.{foundHlend}
 use Rattle.arrival.specs.Partitions.{headerEnd}
 use Rattle.engine.specs.Stretch.{stretchPlace}
 use borrow.Author.Needs.{needs}
@@ -15,7 +15,7 @@ use Rattle.engine.proofs.alone.empty.Reads as empty-reads
 use Rattle.engine.proofs.alone.place_in.Reads as place-in-reads
 use Rattle.arrival.proofs.lengths.length_fits.Reads as length-fits-reads
 use Rattle.arrival.proofs.partitions.header_end.Reads as header-end-reads
-use Rattle.framing.proofs.hlend.read_hlend.Reads as read-hlend-reads
+use Rattle.xgtc.proofs.hlend.read_hlend.Reads as read-hlend-reads
 use Rattle.ranges.proofs.in_range.Reads as in-range-reads
 
 -- src/alone.rt:72:9

@@ -7,7 +7,7 @@ use borrow.Author.Tests.{le-leb}
 use Rattle.hec.specs.Lent.{readingBy}
 use Rattle.hec.specs.Reads.{found64}
 use Rattle.framing.specs.Octets.{value}
-use Rattle.framing.specs.Layouts.{allocationOf}
+use Rattle.xgtc.specs.Layouts.{allocationOf}
 use Rattle.framing.proofs.Steps.{read-short, read-found}
 use borrow.Author.Needs.{needs}
 use Rattle.entries.proofs.reading.read_entry.Statement.{statement}

@@ -1,5 +1,6 @@
 -- `hec::damage::mend_as` meets its contract: each of its answers is that of a step.
 -- Assumes nothing.
+use native.Mathlib.Omega.{arith}
 use Rattle.hec.proofs.Steps.{few-enough, too-many}
 use borrow.Author.Needs.{needs}
 use Rattle.hec.proofs.damage.mend_as.Statement.{statement}
@@ -23,11 +24,12 @@ shl-bits-2 c = search needs
 cast-t16 : tie.Need-cast-t16
 cast-t16 c = search needs
 
+-- the test by arithmetic, not as it stands: one of another number is refused for what it lets through or keeps out
 returns : tie.Need-returns
-returns c = let a = c .before .args in few-enough (a .entry) (a .word) (a .syndrome) (c .if1 .taken)
+returns c = let a = c .before .args in few-enough (a .entry) (a .word) (a .syndrome) (omega (arith, c .if1 .taken))
 
 returns-2 : tie.Need-returns-2
-returns-2 c = let a = c .before .args in too-many (a .entry) (a .word) (a .syndrome) (c .if1 .left)
+returns-2 c = let a = c .before .args in too-many (a .entry) (a .word) (a .syndrome) (omega (arith, c .if1 .left))
 
 pub mend-as-spec : {M : Type 1} → statement M
 mend-as-spec =

@@ -4,7 +4,7 @@ use Prim.Native.Nat.{ℕ, _+_, _*_, _<_}
 use mathlib.Core.Path.{_≡_, ap, _∙_}
 use native.Mathlib.Omega.{arith}
 use Rattle.hec.specs.Writes.{closed}
-use Rattle.hec.proofs.Range.{remainder-lt}
+use Rattle.bch.proofs.Range.{remainder-lt}
 use borrow.Author.Needs.{needs}
 use Rattle.hec.proofs.protect.protected.Statement.{statement}
 use Rattle.hec.proofs.protect.protected.Tie as tie

@@ -5,11 +5,11 @@ use mathlib.Core.Path.{_≡_, refl, ap, _∙_}
 use native.Mathlib.Omega.{arith}
 use borrow.Author.Needs.{needs}
 use lib.Bits.{bitXor}
-use Rattle.hec.specs.Code.{place, remainderFrom, remainder}
-use Rattle.hec.specs.Lent.{Remainders}
-use Rattle.hec.proofs.Xor.{bit}
-use Rattle.hec.proofs.Range.{place-lt, bit-times-lt}
-use Rattle.hec.proofs.Linear.{sum-more, sum-done}
+use Rattle.bch.specs.Code.{place, remainderFrom, remainder}
+use Rattle.bch.specs.Tables.{Remainders}
+use Rattle.bch.proofs.Xor.{bit}
+use Rattle.bch.proofs.Range.{place-lt, bit-times-lt}
+use Rattle.bch.proofs.Linear.{sum-more, sum-done}
 use Rattle.hec.proofs.protect.remainder_of.Statement.{statement}
 use Rattle.hec.proofs.protect.remainder_of.Tie as tie
 

@@ -1,0 +1,39 @@
+-- `xgtc::allocation::read_allocation_by` meets its contract.
+-- Assumes nothing.
+use denote.Ref.{now}
+use mathlib.Core.Path.{_≡_, _∙_}
+use native.Mathlib.Omega.{arith}
+use lib.ListN.{length, take}
+use borrow.Author.Tests.{le-leb}
+use Rattle.hec.specs.Lent.{readingBy}
+use Rattle.hec.specs.Reads.{found64}
+use Rattle.xgtc.specs.Layouts.{allocationOf}
+use Rattle.framing.specs.Octets.{value}
+use Rattle.framing.proofs.Steps.{read-short, read-found}
+use borrow.Author.Needs.{needs}
+use Rattle.xgtc.proofs.allocation.read_allocation_by.Statement.{statement}
+use Rattle.xgtc.proofs.allocation.read_allocation_by.Tie as tie
+
+returns : tie.Need-returns
+returns c =
+    let a = c .before .before .args in
+    read-short (readingBy (now (a .syndromes)) (now (a .flips)) 8) 8 allocationOf (now (a .s)) (c .if1 .taken)
+
+word-ahead-requires : tie.Need-word-ahead-requires
+word-ahead-requires c κs = search needs
+
+read64-by-requires : tie.Need-read64-by-requires
+read64-by-requires c κs = search needs
+
+found-requires : tie.Need-found-requires
+found-requires c κs = search needs
+
+returns-2 : tie.Need-returns-2
+returns-2 c =
+    let a = c .before .before .before .before .before .args in
+    let w : c .before .before .word-ahead .result ≡ value (take 8 (now (a .s))) = c .before .before .word-ahead .ensures ∙ rw (le-leb 8 (length (now (a .s))) (c .before .before .before .if1 .left)) in
+    read-found (readingBy (now (a .syndromes)) (now (a .flips)) 8) 8 allocationOf (now (a .s)) _ (found64 (c .before .read64-by .result)) _ (c .before .before .before .if1 .left) w (c .before .read64-by .ensures) (c .found .ensures)
+
+pub read-allocation-by-spec : {M : Type 1} → statement M
+read-allocation-by-spec =
+    tie.close (tie.spec returns word-ahead-requires read64-by-requires found-requires returns-2)

@@ -1,0 +1,75 @@
+-- `xgtc::octets::word32` meets its contract, an octet after the other.
+-- Assumes nothing.
+use denote.Ref.{now}
+use native.Mathlib.Omega.{arith}
+use Rattle.framing.proofs.Numbers.{value-step}
+use borrow.Author.Needs.{needs}
+use Rattle.xgtc.proofs.octets.word32.Statement.{statement}
+use Rattle.xgtc.proofs.octets.word32.Tie as tie
+
+shared-slice-read-wide32 : tie.Need-shared-slice-read-wide32
+shared-slice-read-wide32 c = search needs
+
+wide32-requires : tie.Need-wide32-requires
+wide32-requires c κs = search needs
+
+mul-result : tie.Need-mul-result
+mul-result c = search needs
+
+shared-slice-read-wide32-2 : tie.Need-shared-slice-read-wide32-2
+shared-slice-read-wide32-2 c = search needs
+
+wide32-requires-2 : tie.Need-wide32-requires-2
+wide32-requires-2 c κs = search needs
+
+mul-result-2 : tie.Need-mul-result-2
+mul-result-2 c = search needs
+
+shared-slice-read-wide32-3 : tie.Need-shared-slice-read-wide32-3
+shared-slice-read-wide32-3 c = search needs
+
+wide32-requires-3 : tie.Need-wide32-requires-3
+wide32-requires-3 c κs = search needs
+
+mul-result-3 : tie.Need-mul-result-3
+mul-result-3 c = search needs
+
+shared-slice-read-wide32-4 : tie.Need-shared-slice-read-wide32-4
+shared-slice-read-wide32-4 c = search needs
+
+wide32-requires-4 : tie.Need-wide32-requires-4
+wide32-requires-4 c κs = search needs
+
+add-result : tie.Need-add-result
+add-result c = search needs
+
+add-result-2 : tie.Need-add-result-2
+add-result-2 c = search needs
+
+add-result-3 : tie.Need-add-result-3
+add-result-3 c = search needs
+
+returns : tie.Need-returns
+returns c =
+    let s = now (c .before .before .before .before .before .before .before .before .before .args .s) in
+    omega (arith, value-step s 0 3 (omega arith), value-step s 1 2 (omega arith), value-step s 2 1 (omega arith), value-step s 3 0 (omega arith))
+
+pub word32-spec : {M : Type 1} → statement M
+word32-spec =
+    tie.close
+    (tie.spec
+    shared-slice-read-wide32
+    wide32-requires
+    mul-result
+    shared-slice-read-wide32-2
+    wide32-requires-2
+    mul-result-2
+    shared-slice-read-wide32-3
+    wide32-requires-3
+    mul-result-3
+    shared-slice-read-wide32-4
+    wide32-requires-4
+    add-result
+    add-result-2
+    add-result-3
+    returns)
