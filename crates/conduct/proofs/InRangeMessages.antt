@@ -16,7 +16,7 @@ use Rattle.station.specs.declared.Activation.{Activation}
 use Rattle.station.specs.declared.Activation.the-variants.{Initial, SerialNumber, Ranging, Operation, Intermittent, EmergencyStop}
 use Rattle.station.specs.declared.Station.{Station}
 use Rattle.station.specs.States.{holdsIdentity}
-use Rattle.station.specs.Held.{allocPlace, addAlloc, removeAlloc, owe, paid}
+use Rattle.link.specs.Link.{allocPlace, addAlloc, removeAlloc, owe, paid}
 use Rattle.ranges.specs.Ranges.{identityFits}
 use Rattle.effects.specs.declared.Change.{Change}
 use Rattle.effects.specs.declared.Change.the-variants.{Keep, Identify, Range, Delay, AddAlloc, RemoveAlloc, Enter}

@@ -4,8 +4,8 @@ use mathlib.Core.Path.{_≡_, _∙_, refl, sym, ap}
 use mathlib.Core.Bool.{Bool, true, false, cond, false≢true}
 use Rattle.ploam.specs.declared.Message.{Message}
 use Rattle.station.specs.declared.Station.{Station}
-use Rattle.station.specs.declared.held.Key.{Key}
-use Rattle.station.specs.Held.{noKey}
+use Rattle.link.specs.declared.Key.{Key}
+use Rattle.link.specs.Link.{noKey}
 use Rattle.effects.specs.declared.Change.{Change}
 use Rattle.effects.specs.declared.Change.the-variants.{Keep, Identify, Range, Delay, AddAlloc, RemoveAlloc, Enter}
 use Rattle.effects.specs.declared.Debt.{Debt}

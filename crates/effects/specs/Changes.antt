@@ -5,8 +5,8 @@ use Rattle.ids.specs.declared.OnuId.{OnuId}
 use Rattle.station.specs.declared.Activation.the-variants.{Ranging, Operation}
 use Rattle.station.specs.declared.Station.{Station}
 use Rattle.station.specs.Limits.{to1}
-use Rattle.station.specs.Held.{withOnu, withDelay, withAllocs, withOwed, addAlloc, removeAlloc, owe}
-use Rattle.station.specs.Slots.{clearManagement}
+use Rattle.link.specs.Link.{withOnu, withDelay, withAllocs, withOwed, addAlloc, removeAlloc, owe}
+use Rattle.ports.specs.Ports.{clearManagement}
 use Rattle.station.specs.Station.{enter, withActivation, withLink, withPorts}
 use Rattle.effects.specs.declared.Change.{Change}
 use Rattle.effects.specs.declared.Change.the-variants.{Keep, Identify, Range, Delay, AddAlloc, RemoveAlloc, Enter}

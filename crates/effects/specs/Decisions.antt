@@ -19,15 +19,15 @@ use Rattle.ploam.specs.Reading.{serialAt}
 use Rattle.station.specs.declared.Activation.{Activation}
 use Rattle.station.specs.declared.Activation.the-variants.{Initial, EmergencyStop}
 use Rattle.station.specs.declared.Station.{Station}
-use Rattle.station.specs.declared.held.Allocs.{Allocs}
-use Rattle.station.specs.declared.held.Queue.{Queue}
-use Rattle.station.specs.declared.held.Place.{Place}
-use Rattle.station.specs.declared.held.Place.the-variants.{At, Nowhere}
-use Rattle.station.specs.declared.held.Completion.the-variants.{Ok, UnknownMessageType, ParameterError, ProcessingError}
-use Rattle.station.specs.declared.held.Response.the-variants.{Registration}
-use Rattle.station.specs.Limits.{addedAllocs, mostOwed}
+use Rattle.link.specs.declared.Allocs.{Allocs}
+use Rattle.link.specs.declared.Queue.{Queue}
+use Rattle.link.specs.declared.Place.{Place}
+use Rattle.link.specs.declared.Place.the-variants.{At, Nowhere}
+use Rattle.link.specs.declared.Completion.the-variants.{Ok, UnknownMessageType, ParameterError, ProcessingError}
+use Rattle.link.specs.declared.Response.the-variants.{Registration}
+use Rattle.link.specs.Limits.{addedAllocs, mostOwed}
 use Rattle.station.specs.States.{holdsIdentity, stateNumber, o23, o5, o7}
-use Rattle.station.specs.Held.{allocPlace}
+use Rattle.link.specs.Link.{allocPlace}
 use Rattle.effects.specs.declared.Change.the-variants.{Keep, Identify, AddAlloc, RemoveAlloc, Enter}
 use Rattle.effects.specs.declared.Debt.{Debt}
 use Rattle.effects.specs.declared.Debt.the-variants.{Free, Owes}

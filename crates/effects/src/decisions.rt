@@ -13,6 +13,12 @@ use crate::Effect;
 use crate::ranging;
 use ids::AllocId;
 use ids::OnuId;
+use link::Allocs;
+use link::Completion;
+use link::Owed;
+use link::Place;
+use link::Queue;
+use link::Response;
 use ploam::AllocChange;
 use ploam::Content;
 use ploam::Message;
@@ -20,12 +26,6 @@ use ploam::SerialNumber;
 use ploam::Switch;
 use station::Activation;
 use station::Station;
-use station::held::Allocs;
-use station::held::Completion;
-use station::held::Owed;
-use station::held::Place;
-use station::held::Queue;
-use station::held::Response;
 
 // The states by the numbers that the paper gives them.
 pub(crate) const O23: u8 = 2;
@@ -131,7 +131,7 @@ fn alloc_change(allocs: Allocs, seq: u8, id: AllocId, change: AllocChange) -> Ef
             if held {
                 return answers(Change::Keep, Completion::Ok, seq);
             }
-            if station::held::ADDED_ALLOCS <= allocs.count {
+            if link::ADDED_ALLOCS <= allocs.count {
                 return answers(Change::Keep, Completion::ProcessingError, seq);
             }
             answers(Change::AddAlloc(id), Completion::Ok, seq)
@@ -306,7 +306,7 @@ fn fitting(owed: Queue, e: Effect) -> Effect
     match debt {
         Debt::Free => e,
         Debt::Owes(_) => {
-            if station::held::MOST_OWED <= owed.count {
+            if link::MOST_OWED <= owed.count {
                 return ignored();
             }
             e

@@ -5,10 +5,10 @@ ghost use Rattle.effects.specs.Effects.{isIgnored};
 ghost use Rattle.effects.specs.Acts.{Decides, Applies};
 use ids::AllocId;
 use ids::OnuId;
+use link::Owed;
 use ploam::Message;
 use station::Activation;
 use station::Station;
-use station::held::Owed;
 
 mod changes;
 mod decisions;

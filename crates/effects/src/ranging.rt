@@ -10,8 +10,8 @@ use crate::decisions::O5;
 use crate::decisions::answers;
 use crate::decisions::does;
 use crate::decisions::ignored;
+use link::Completion;
 use ploam::Adjustment;
-use station::held::Completion;
 
 // Where a delay goes: to a number of 32 bits, or outside.
 pub enum Target {

@@ -11,9 +11,9 @@ use borrow.Author.Tests.{eq-eqb, leb-true}
 use Rattle.ids.specs.declared.AllocId.{AllocId}
 use Rattle.ids.specs.Ids.{assignableAlloc, sameAlloc}
 use Rattle.station.specs.declared.Station.{Station}
-use Rattle.station.specs.declared.held.Allocs.{Allocs}
-use Rattle.station.specs.Limits.{addedAllocs}
-use Rattle.station.specs.Held.{heldAllocs, allocPlace}
+use Rattle.link.specs.declared.Allocs.{Allocs}
+use Rattle.link.specs.Limits.{addedAllocs}
+use Rattle.link.specs.Link.{heldAllocs, allocPlace}
 use Rattle.station.specs.Station.{powerOn}
 use Rattle.ranges.specs.Ranges.{proper, allocsFit}
 use Rattle.entries.specs.declared.Own.{Own}

@@ -26,12 +26,12 @@ use Rattle.ploam.specs.Integrity.{installedKey, genuine, micRight}
 use Rattle.station.specs.declared.Activation.{Activation}
 use Rattle.station.specs.declared.Activation.the-variants.{Initial, SerialNumber, Ranging, Operation, Intermittent, EmergencyStop}
 use Rattle.station.specs.declared.Station.{Station}
-use Rattle.station.specs.declared.held.Allocs.{Allocs}
-use Rattle.station.specs.declared.held.Queue.{Queue}
-use Rattle.station.specs.declared.held.Completion.the-variants.{Ok, ParameterError, ProcessingError}
-use Rattle.station.specs.Limits.{addedAllocs, mostOwed}
+use Rattle.link.specs.declared.Allocs.{Allocs}
+use Rattle.link.specs.declared.Queue.{Queue}
+use Rattle.link.specs.declared.Completion.the-variants.{Ok, ParameterError, ProcessingError}
+use Rattle.link.specs.Limits.{addedAllocs, mostOwed}
 use Rattle.station.specs.States.{holdsIdentity, stateNumber, o23, o4, o5, o7}
-use Rattle.station.specs.Held.{allocPlace, heldAllocs}
+use Rattle.link.specs.Link.{allocPlace, heldAllocs}
 use Rattle.effects.specs.declared.Change.{Change}
 use Rattle.effects.specs.declared.Change.the-variants.{Keep, Identify, Range, Delay, AddAlloc, RemoveAlloc, Enter}
 use Rattle.effects.specs.declared.Debt.{Debt}
