@@ -16,13 +16,14 @@ use Rattle.station.specs.declared.Station.{Station}
 use Rattle.link.specs.declared.Allocs.{Allocs}
 use Rattle.link.specs.declared.Owed.{Owed}
 use Rattle.link.specs.declared.Queue.{Queue}
-use Rattle.link.specs.declared.Place.{Place}
-use Rattle.link.specs.declared.Place.the-variants.{At, Nowhere}
+use Rattle.ids.specs.declared.Place.{Place}
+use Rattle.ids.specs.declared.Place.the-variants.{At, Nowhere}
 use Rattle.link.specs.Limits.{addedAllocs, mostOwed}
-use Rattle.link.specs.Lists.{closeUp, some}
+use Rattle.ids.specs.Places.{some}
+use Rattle.link.specs.Lists.{closeUp}
 use Rattle.link.specs.Link.{noAlloc, blank, heldAllocs, allocPlace, addAlloc, removeAt, owe, paid, withAllocs, withOwed}
 use Rattle.station.specs.Station.{withLink}
-use Rattle.link.proofs.Places.{place-held}
+use Rattle.ids.proofs.Places.{place-held}
 use Rattle.ranges.specs.Ranges.{proper, allocsFit}
 use Rattle.effects.specs.Decisions.{found}
 use Rattle.conduct.proofs.Valid.{both}

@@ -7,9 +7,10 @@ use mathlib.Core.Bool.{Bool, true, false, _&&_, _||_, not, cond, false≢true}
 use native.Mathlib.Omega.{arith}
 use lib.ListN.{length, getD, take, drop, set}
 use lib.Seq.{take-append-le}
-use Rattle.link.specs.Lists.{placeFrom, closeUp, some}
-use Rattle.link.specs.declared.Place.{Place}
-use Rattle.link.specs.declared.Place.the-variants.{At, Nowhere}
+use Rattle.ids.specs.Places.{placeFrom, some}
+use Rattle.link.specs.Lists.{closeUp}
+use Rattle.ids.specs.declared.Place.{Place}
+use Rattle.ids.specs.declared.Place.the-variants.{At, Nowhere}
 use Rattle.ranges.specs.Ranges.{proper, every}
 use Rattle.effects.specs.Decisions.{found}
 use Rattle.conduct.proofs.Valid.{both}

@@ -21,8 +21,8 @@ use Rattle.station.specs.declared.Activation.the-variants.{Initial, EmergencySt
 use Rattle.station.specs.declared.Station.{Station}
 use Rattle.link.specs.declared.Allocs.{Allocs}
 use Rattle.link.specs.declared.Queue.{Queue}
-use Rattle.link.specs.declared.Place.{Place}
-use Rattle.link.specs.declared.Place.the-variants.{At, Nowhere}
+use Rattle.ids.specs.declared.Place.{Place}
+use Rattle.ids.specs.declared.Place.the-variants.{At, Nowhere}
 use Rattle.link.specs.declared.Completion.the-variants.{Ok, UnknownMessageType, ParameterError, ProcessingError}
 use Rattle.link.specs.declared.Response.the-variants.{Registration}
 use Rattle.link.specs.Limits.{addedAllocs, mostOwed}

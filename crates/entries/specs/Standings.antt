@@ -15,7 +15,7 @@ use Rattle.framing.specs.Reads.{Found, fields, unreadable, short, readAs}
 use Rattle.station.specs.declared.Activation.{Activation}
 use Rattle.station.specs.declared.Activation.the-variants.{Initial, SerialNumber, Ranging, Operation, Intermittent, EmergencyStop}
 use Rattle.link.specs.declared.Allocs.{Allocs}
-use Rattle.link.specs.Lists.{some}
+use Rattle.ids.specs.Places.{some}
 use Rattle.link.specs.Link.{heldAllocs}
 use Rattle.entries.specs.Limits.{structureOctets, lastStart, continuing}
 use Rattle.entries.specs.declared.Own.{Own}

@@ -11,7 +11,7 @@ ghost use mathlib.Core.Path.{_≡_};
 ghost use mathlib.Core.Bool.{_||_, _&&_};
 ghost use lib.ListN.{take};
 ghost use Rattle.framing.specs.Reads.{foundAllocation};
-ghost use Rattle.link.specs.Lists.{some};
+ghost use Rattle.ids.specs.Places.{some};
 ghost use Rattle.ids.specs.Ids.{sameAlloc};
 ghost use Rattle.entries.specs.Standings.{isPlanned, startUnfit, noRoom, continues, held, discovery, ranging, ours, silent, sorted, standing, readBy};
 

@@ -11,10 +11,10 @@ use lib.ListN.{length, getD}
 use Rattle.ids.specs.declared.PortId.{PortId}
 use Rattle.ids.specs.Ids.{samePort, assignablePort}
 use Rattle.ports.specs.declared.Ports.{Ports}
-use Rattle.link.specs.declared.Place.{Place}
-use Rattle.link.specs.declared.Place.the-variants.{At, Nowhere}
+use Rattle.ids.specs.declared.Place.{Place}
+use Rattle.ids.specs.declared.Place.the-variants.{At, Nowhere}
 use Rattle.ports.specs.Limits.{slots, addedPorts, slotBytes}
-use Rattle.link.specs.Lists.{Below, placeFrom}
+use Rattle.ids.specs.Places.{Below, placeFrom}
 use Rattle.ports.specs.Ports.{portPlace}
 use Rattle.fragments.specs.declared.Effect.{Effect}
 use Rattle.fragments.specs.declared.Effect.the-variants.{Nothing, Discard, Deliver, Append}

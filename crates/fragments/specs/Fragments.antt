@@ -8,10 +8,10 @@ use lib.ListN.{getD}
 use Rattle.ids.specs.declared.PortId.{PortId}
 use Rattle.ids.specs.Ids.{samePort, assignablePort}
 use Rattle.ports.specs.declared.Ports.{Ports}
-use Rattle.link.specs.declared.Place.{Place}
-use Rattle.link.specs.declared.Place.the-variants.{At, Nowhere}
+use Rattle.ids.specs.declared.Place.{Place}
+use Rattle.ids.specs.declared.Place.the-variants.{At, Nowhere}
 use Rattle.ports.specs.Limits.{slotBytes}
-use Rattle.link.specs.Lists.{placeFrom}
+use Rattle.ids.specs.Places.{placeFrom}
 use Rattle.fragments.specs.declared.Effect.{Effect}
 use Rattle.fragments.specs.declared.Effect.the-variants.{Nothing, Discard, Deliver, Append}
 

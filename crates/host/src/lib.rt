@@ -2,9 +2,9 @@
 ghost use mathlib.Core.Path.{_≡_};
 ghost use Rattle.host.specs.Host.{found, done, outcome, answerToAdd, answerToRemove, answerToKey};
 ghost use Rattle.host.specs.Host.{AddLeaves, RemoveLeaves, KeyLeaves, afterAdd, afterRemove, afterKey};
+use ids::Place;
 use ids::PortId;
 use link::Key;
-use link::Place;
 use station::Station;
 use station::answers::Answer;
 

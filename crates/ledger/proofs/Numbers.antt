@@ -13,12 +13,12 @@ use borrow.Author.Tests.{eqb-true, eqb-false, ne-eqb, lt-leb, leb-true}
 use Rattle.ids.specs.declared.AllocId.{AllocId}
 use Rattle.ids.specs.Ids.{sameAlloc, assignableAlloc}
 use Rattle.link.specs.declared.Allocs.{Allocs}
-use Rattle.link.specs.declared.Place.{Place}
-use Rattle.link.specs.declared.Place.the-variants.{At, Nowhere}
+use Rattle.ids.specs.declared.Place.{Place}
+use Rattle.ids.specs.declared.Place.the-variants.{At, Nowhere}
 use Rattle.link.specs.Limits.{addedAllocs}
-use Rattle.link.specs.Lists.{placeFrom, some}
+use Rattle.ids.specs.Places.{placeFrom, some}
 use Rattle.link.specs.Link.{noAlloc, heldAllocs, allocPlace, addAlloc, removeAlloc, removeAt}
-use Rattle.link.proofs.Places.{place-held}
+use Rattle.ids.proofs.Places.{place-held}
 use Rattle.ranges.specs.Ranges.{proper, allocsFit}
 use Rattle.effects.specs.Decisions.{found}
 use Rattle.conduct.proofs.Valid.{both}

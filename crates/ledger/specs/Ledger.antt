@@ -8,7 +8,7 @@ use mathlib.Core.List.{List, [], _∷_, _++_}
 use lib.Dec.{eqb}
 use Rattle.ids.specs.Ids.{sameAlloc}
 use Rattle.station.specs.declared.Station.{Station}
-use Rattle.link.specs.Lists.{some}
+use Rattle.ids.specs.Places.{some}
 use Rattle.station.specs.States.{holdsIdentity, o4}
 use Rattle.link.specs.Link.{heldAllocs}
 use Rattle.ledger.specs.Events.{Event, considered, ended, unread, lost, replied, walked, carriedOver, portAdded, portRemoved, keyGiven, stationOf}

@@ -16,10 +16,11 @@ use Rattle.link.specs.declared.Key.{Key}
 use Rattle.link.specs.declared.Allocs.{Allocs}
 use Rattle.link.specs.declared.Queue.{Queue}
 use Rattle.link.specs.declared.Link.{Link}
-use Rattle.link.specs.declared.Place.{Place}
-use Rattle.link.specs.declared.Place.the-variants.{At, Nowhere}
+use Rattle.ids.specs.declared.Place.{Place}
+use Rattle.ids.specs.declared.Place.the-variants.{At, Nowhere}
 use Rattle.link.specs.Limits.{addedAllocs, mostOwed, keyOctets}
-use Rattle.link.specs.Lists.{placeFrom, closeUp}
+use Rattle.ids.specs.Places.{placeFrom}
+use Rattle.link.specs.Lists.{closeUp}
 
 -- 11.3.4.4
 abbrev pub completionCode : Completion → ℕ

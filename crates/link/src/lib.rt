@@ -4,13 +4,15 @@ ghost use mathlib.Core.Bool.{Bool};
 ghost use Prim.Native.Nat.{_<_, _≤_};
 ghost use lib.ListN.{length, take};
 ghost use Rattle.ids.specs.Ids.{sameAlloc};
+ghost use Rattle.ids.specs.Places.{placeFrom, Below};
 ghost use Rattle.link.specs.Limits.{addedAllocs, mostOwed};
-ghost use Rattle.link.specs.Lists.{placeFrom, Below, closeUp};
+ghost use Rattle.link.specs.Lists.{closeUp};
 ghost use Rattle.link.specs.Link.{completionCode, noAlloc, blank, noKey, noAllocs, noneOwed, nothing, installed};
 ghost use Rattle.link.specs.Link.{allocPlace, addAlloc, removeAlloc, owe, paid, oldest};
 ghost use Rattle.link.specs.Link.{withOnu, withDelay, withKey, withAllocs, withOwed};
 use ids::AllocId;
 use ids::OnuId;
+use ids::Place;
 
 // Of the added Alloc-IDs and of the answers owed, at most so many.
 pub const ADDED_ALLOCS: usize = 16;
@@ -78,12 +80,6 @@ pub struct Link {
     pub delay: u32,
     pub key: Key,
     pub owed: Queue,
-}
-
-// Where something stands in a list, if it does.
-pub enum Place {
-    At(usize),
-    Nowhere,
 }
 
 fn blank_answer() -> Owed

@@ -13,8 +13,8 @@ use Rattle.framing.specs.declared.xgem.XgemHeader.{XgemHeader}
 use Rattle.framing.specs.Octets.{value}
 use Rattle.framing.specs.Layouts.{xgemOf, payloadSize}
 use Rattle.framing.specs.Reads.{Found, taken as taken-fields, short, readXgem}
-use Rattle.link.specs.declared.Place.{Place}
-use Rattle.link.specs.declared.Place.the-variants.{Nowhere}
+use Rattle.ids.specs.declared.Place.{Place}
+use Rattle.ids.specs.declared.Place.the-variants.{Nowhere}
 use Rattle.ports.specs.declared.Ports.{Ports}
 use Rattle.fragments.specs.declared.Effect.{Effect}
 use Rattle.fragments.specs.declared.Effect.the-variants.{Nothing}

@@ -22,8 +22,8 @@ use Rattle.framing.proofs.Numbers.{octets-length, value-octets}
 use Rattle.framing.proofs.Layouts.{xgem-true}
 use Rattle.framing.proofs.Frames.{frame-length}
 use Rattle.framing.proofs.RoundTrips.{frame-mended, octets-bytes}
-use Rattle.link.specs.declared.Place.{Place}
-use Rattle.link.specs.declared.Place.the-variants.{At}
+use Rattle.ids.specs.declared.Place.{Place}
+use Rattle.ids.specs.declared.Place.the-variants.{At}
 use Rattle.ports.specs.Limits.{slots, slotBytes}
 use Rattle.fragments.specs.declared.Effect.{Effect}
 use Rattle.fragments.specs.declared.Effect.the-variants.{Nothing, Discard, Deliver, Append}

@@ -8,10 +8,10 @@ use lib.Dec.{leb, eqb}
 use Rattle.ids.specs.declared.PortId.{PortId}
 use Rattle.ids.specs.Ids.{samePort}
 use Rattle.ports.specs.declared.Ports.{Ports}
-use Rattle.link.specs.declared.Place.{Place}
-use Rattle.link.specs.declared.Place.the-variants.{At, Nowhere}
+use Rattle.ids.specs.declared.Place.{Place}
+use Rattle.ids.specs.declared.Place.the-variants.{At, Nowhere}
 use Rattle.ports.specs.Limits.{slots, addedPorts}
-use Rattle.link.specs.Lists.{placeFrom}
+use Rattle.ids.specs.Places.{placeFrom}
 
 -- what stands in an empty slot: no added port has this number
 abbrev pub noPort : PortId

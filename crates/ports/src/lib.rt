@@ -3,11 +3,11 @@ ghost use mathlib.Core.Path.{_≡_};
 ghost use Prim.Native.Nat.{_<_, _≤_};
 ghost use lib.ListN.{length, take};
 ghost use Rattle.ids.specs.Ids.{samePort};
-ghost use Rattle.link.specs.Lists.{placeFrom, Below};
+ghost use Rattle.ids.specs.Places.{placeFrom, Below};
 ghost use Rattle.ports.specs.Limits.{addedPorts};
 ghost use Rattle.ports.specs.Ports.{noPort, noPorts, dropOne, dropAll, clearManagement, portPlace, vacancy, putPort, addPort, removePort};
+use ids::Place;
 use ids::PortId;
-use link::Place;
 
 pub const ADDED_PORTS: usize = 16;
 

@@ -10,7 +10,7 @@ use lib.ListN.{length, getD, drop, set, drop-of-length-le}
 use lib.Seq.{sets, sets-eq, drop-cons}
 use lib.Dec.{eqb, leb}
 use borrow.Author.Tests.{le-leb, eqb-true}
-use Rattle.link.specs.Lists.{some}
+use Rattle.ids.specs.Places.{some}
 use Rattle.ids.specs.declared.PortId.{PortId}
 use Rattle.ids.specs.Ids.{samePort}
 use Rattle.ports.specs.Ports.{noPort}

@@ -17,7 +17,7 @@ use Rattle.ports.specs.declared.Ports.{Ports}
 use Rattle.link.specs.Limits.{addedAllocs, mostOwed}
 use Rattle.ports.specs.Limits.{addedPorts, slots, slotBytes}
 use Rattle.station.specs.Limits.{upstreamWords, to1, to2}
-use Rattle.link.specs.Lists.{some}
+use Rattle.ids.specs.Places.{some}
 use Rattle.station.specs.States.{holdsIdentity}
 use Rattle.link.specs.Link.{heldAllocs}
 use Rattle.ports.specs.Ports.{noPort}

@@ -3,7 +3,7 @@ ghost use mathlib.Core.Path.{_≡_};
 ghost use mathlib.Core.Bool.{Bool, false, not, cond};
 ghost use Rattle.ids.specs.Ids.{within};
 ghost use Rattle.ports.specs.Limits.{addedPorts, slots};
-ghost use Rattle.link.specs.Lists.{some};
+ghost use Rattle.ids.specs.Places.{some};
 ghost use Rattle.ranges.specs.Ranges.{identityFits, timerFits, allocsFit, portsFit, every, partialFits, partialsFit, inRange};
 ghost use Rattle.ranges.specs.Ranges.{placeNumber, allocNumbers, portNumbers, isUnfit, times, equalPairs, numbersFit};
 ghost use Rattle.ranges.specs.Ranges.{lengthFits, emptyFits};

@@ -7,7 +7,7 @@ use lib.ListN.{length, length-set}
 use borrow.Author.Needs.{needs}
 use Rattle.link.specs.Lists.{closeUp}
 use Rattle.link.specs.Link.{noAlloc}
-use Rattle.link.proofs.Places.{close-step, close-end}
+use Rattle.link.proofs.Closing.{close-step, close-end}
 use Rattle.link.proofs.close_allocs.Statement.{statement}
 use Rattle.link.proofs.close_allocs.Tie as tie
 

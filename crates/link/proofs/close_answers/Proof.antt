@@ -7,7 +7,7 @@ use lib.ListN.{length, length-set}
 use borrow.Author.Needs.{needs}
 use Rattle.link.specs.Lists.{closeUp}
 use Rattle.link.specs.Link.{blank}
-use Rattle.link.proofs.Places.{close-step, close-end}
+use Rattle.link.proofs.Closing.{close-step, close-end}
 use Rattle.link.proofs.close_answers.Statement.{statement}
 use Rattle.link.proofs.close_answers.Tie as tie
 

@@ -7,8 +7,8 @@ use lib.ListN.{length, take}
 use lib.Seq.{slice}
 use borrow.Author.Needs.{needs}
 use Rattle.ids.specs.Ids.{sameAlloc}
-use Rattle.link.specs.Lists.{placeFrom}
-use Rattle.link.proofs.Places.{place-here, place-next, place-none}
+use Rattle.ids.specs.Places.{placeFrom}
+use Rattle.ids.proofs.Places.{place-here, place-next, place-none}
 use Rattle.link.proofs.find_alloc.Statement.{statement}
 use Rattle.link.proofs.find_alloc.Tie as tie
 

@@ -7,8 +7,8 @@ use lib.ListN.{length}
 use lib.Seq.{slice, take-all}
 use borrow.Author.Needs.{needs}
 use Rattle.ids.specs.Ids.{samePort}
-use Rattle.link.specs.Lists.{placeFrom}
-use Rattle.link.proofs.Places.{place-here, place-next, place-none}
+use Rattle.ids.specs.Places.{placeFrom}
+use Rattle.ids.proofs.Places.{place-here, place-next, place-none}
 use Rattle.ports.proofs.find_port.Statement.{statement}
 use Rattle.ports.proofs.find_port.Tie as tie
 

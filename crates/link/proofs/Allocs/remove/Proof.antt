@@ -3,7 +3,7 @@
 use mathlib.Core.Path.{_∙_, sym}
 use native.Mathlib.Omega.{arith}
 use Rattle.ids.specs.Ids.{sameAlloc}
-use Rattle.link.proofs.Places.{place-held}
+use Rattle.ids.proofs.Places.{place-held}
 use borrow.Author.Needs.{needs}
 use Rattle.link.proofs.Allocs.remove.Statement.{statement}
 use Rattle.link.proofs.Allocs.remove.Tie as tie

@@ -1,16 +1,16 @@
--- Places in a list found one after another, and a list that closes up one element at a time.
+-- Places in a list found one after another.
 -- Assumes nothing.
 use Prim.Native.Nat.{ℕ, suc, min, _+_, _≤_, _<_}
-use mathlib.Core.Path.{_≡_, _∙_, refl, sym, ap}
-use mathlib.Core.List.{List, [], _∷_, _++_, append-assoc}
+use mathlib.Core.Path.{_≡_, _∙_, ap}
+use mathlib.Core.List.{List, [], _∷_}
 use mathlib.Core.Bool.{Bool, true, false, cond}
 use native.Mathlib.Omega.{arith}
 use native.Mathlib.Numerals.{add-one}
-use lib.ListN.{length, getD, take, drop, set, length-take, drop-of-length-le}
-use lib.Seq.{slice, getD-take, take-suc-set, drop-set-lt, drop-cons, set-split}
-use Rattle.link.specs.declared.Place.{Place}
-use Rattle.link.specs.declared.Place.the-variants.{At, Nowhere}
-use Rattle.link.specs.Lists.{placeFrom, closeUp}
+use lib.ListN.{length, getD, take, length-take, drop-of-length-le}
+use lib.Seq.{slice, getD-take, drop-cons}
+use Rattle.ids.specs.declared.Place.{Place}
+use Rattle.ids.specs.declared.Place.the-variants.{At, Nowhere}
+use Rattle.ids.specs.Places.{placeFrom}
 
 -- one turn of the look through the first n of a list
 module _ {A : Type 0} (f : A → Bool) (i n : ℕ) (l : List A) (d : A) (h : i < n) (k : i < length l) where
@@ -48,20 +48,3 @@ place-held f n l i e =
     let h = place-below f 0 (take n l) i e in
     let k = simp length-take at h in
     (omega arith, omega arith)
-
--- ---- closing up
-
-module _ {A : Type 0} (blank : A) where
-  pub close-step
-      : (l : List A) (j : ℕ) (d : A) → j + 1 < length l → closeUp blank (j + 1) (set l j (getD l (j + 1) d)) ≡ closeUp blank j l
-  close-step l j d h =
-      let x = getD l (suc j) d in
-      let e : j < length l = omega arith in
-      let f : suc j < length l = omega arith in
-      let a : take (suc j) (set l j x) ≡ take j l ++ (x ∷ []) = take-suc-set l j x e in
-      let b : drop (suc (suc j)) (set l j x) ≡ drop (suc (suc j)) l = drop-set-lt (suc (suc j)) l j x (omega arith) in
-      let k : drop (suc j) l ≡ x ∷ drop (suc (suc j)) l = drop-cons l (suc j) d f in
-      rw (add-one j, add-one (suc j), a, b, k, append-assoc)
-
-  pub close-end : (l : List A) (j : ℕ) → j + 1 ≡ length l → set l j blank ≡ closeUp blank j l
-  close-end l j h = set-split l j blank (omega arith) ∙ rw (add-one, drop-of-length-le l {i = suc j} (omega arith))
