@@ -35,10 +35,10 @@ use Rattle.effects.specs.declared.ranging.Target.{Target}
 use Rattle.effects.specs.declared.ranging.Target.the-variants.{To, Outside}
 use Rattle.effects.specs.Effects.{ignored, owes, isIgnored}
 use Rattle.effects.specs.Ranging.{absolute, moved, answered, rangingTime}
-use Rattle.effects.specs.Decisions.{found, assignOnuId, allocChange, assignAllocId, requestRegistration, disable, unknownType}
-use Rattle.effects.specs.Decisions.{byContent, isBroadcast, isOurs, effectOf, fitting, decision}
-use Rattle.effects.specs.Acts.{act}
-use Rattle.effects.proofs.Acting.{act-ignored}
+use Rattle.decisions.specs.Decisions.{found, assignOnuId, allocChange, assignAllocId, requestRegistration, disable, unknownType}
+use Rattle.decisions.specs.Decisions.{byContent, isBroadcast, isOurs, effectOf, fitting, decision}
+use Rattle.decisions.specs.Acts.{act}
+use Rattle.decisions.proofs.Acting.{act-ignored}
 use Rattle.activation.specs.Receiving.{acting, receive, messageAt, messagesFrom, receiveAll, receivedBy, receivedEachBy}
 use Rattle.activation.specs.Inert.{fullOf, inert, pastInert}
 use Rattle.activation.proofs.Receiving.{each-turn}

@@ -20,7 +20,7 @@ use Rattle.ploam.proofs.Keys.{octets-take, default-octets, genuine-by-mix-table
 use Rattle.station.specs.declared.Station.{Station}
 use Rattle.link.specs.declared.Key.{Key}
 use Rattle.link.specs.Link.{noKey}
-use Rattle.effects.proofs.Acting.{act-key}
+use Rattle.decisions.proofs.Acting.{act-key}
 use Rattle.activation.specs.Receiving.{acting, receive, messageAt, messagesFrom, receiveAll, genuineNow, receivedBy, receivedEachBy}
 
 -- ---- one turn

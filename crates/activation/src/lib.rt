@@ -48,7 +48,7 @@ fn considered(t: &[u32; 1024], usual: Prepared, installed: Prepared, s: Station,
 {
     match ploam::reading::read(m) {
         Received::Whole(message) => {
-            let e = effects::decide(s, message);
+            let e = decisions::decide(s, message);
             if e.is_ignored() {
                 return ignored();
             }

@@ -27,9 +27,9 @@ use Rattle.effects.specs.declared.Debt.{Debt}
 use Rattle.effects.specs.declared.Debt.the-variants.{Free, Owes}
 use Rattle.effects.specs.declared.Effect.{Effect}
 use Rattle.effects.specs.Changes.{identify, range, setDelay, applyChange, applyDebt, applied}
-use Rattle.effects.specs.Decisions.{decision}
-use Rattle.effects.specs.Acts.{act}
-use Rattle.effects.proofs.Acting.{order-of-tests}
+use Rattle.decisions.specs.Decisions.{decision}
+use Rattle.decisions.specs.Acts.{act}
+use Rattle.decisions.proofs.Acting.{order-of-tests}
 use Rattle.ploam.specs.Reading.{received}
 use Rattle.ploam.specs.Integrity.{genuine, installedKey}
 use Rattle.activation.specs.Receiving.{acting, receive, receiveAll}

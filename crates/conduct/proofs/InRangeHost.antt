@@ -20,7 +20,7 @@ use Rattle.ports.specs.Ports.{noPort, portPlace, vacancy, putPort, addPort, rem
 use Rattle.station.specs.Station.{withLink, withPorts}
 use Rattle.ids.proofs.Places.{place-below}
 use Rattle.ranges.specs.Ranges.{held, portsFit, partialsFit, inRange}
-use Rattle.effects.specs.Decisions.{found}
+use Rattle.decisions.specs.Decisions.{found}
 use Rattle.host.specs.Host.{done, answerToAdd, answerToRemove, answerToKey, afterAdd, afterRemove, afterKey}
 use Rattle.host.specs.Host as host
 use Rattle.station.specs.declared.answers.Answer.the-variants.{Done, StateOutOfRange, PortOutOfRange, PortHeldOrNotHeld, SlotsTaken}

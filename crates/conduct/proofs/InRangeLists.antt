@@ -25,7 +25,7 @@ use Rattle.link.specs.Link.{noAlloc, blank, heldAllocs, allocPlace, addAlloc, r
 use Rattle.station.specs.Station.{withLink}
 use Rattle.ids.proofs.Places.{place-held}
 use Rattle.ranges.specs.Ranges.{proper, allocsFit}
-use Rattle.effects.specs.Decisions.{found}
+use Rattle.decisions.specs.Decisions.{found}
 use Rattle.conduct.proofs.Valid.{both}
 use Rattle.conduct.proofs.Lists.{join, found-some, proper-snoc, proper-without, closed-up}
 use Rattle.conduct.proofs.Slots.{eqb-comm}

@@ -12,7 +12,7 @@ use Rattle.link.specs.Lists.{closeUp}
 use Rattle.ids.specs.declared.Place.{Place}
 use Rattle.ids.specs.declared.Place.the-variants.{At, Nowhere}
 use Rattle.ranges.specs.Ranges.{proper, every}
-use Rattle.effects.specs.Decisions.{found}
+use Rattle.decisions.specs.Decisions.{found}
 use Rattle.conduct.proofs.Valid.{both}
 
 pub join : (a b : Bool) → a ≡ true → b ≡ true → (a && b) ≡ true

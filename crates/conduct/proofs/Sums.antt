@@ -16,7 +16,7 @@ use Rattle.link.specs.declared.Completion.the-variants.{ParameterError}
 use Rattle.link.specs.Link.{withOwed, owe}
 use Rattle.station.specs.Station.{withLink}
 use Rattle.effects.specs.Ranging.{rangingTime}
-use Rattle.effects.specs.Decisions.{byContent}
+use Rattle.decisions.specs.Decisions.{byContent}
 use Rattle.effects.specs.Changes.{applied}
 
 -- Ranging_Time to ONU-ID 5 with SeqNo 7: relative, subtract, 1

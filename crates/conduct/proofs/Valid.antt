@@ -34,7 +34,7 @@ use Rattle.effects.specs.declared.ranging.Target.{Target}
 use Rattle.effects.specs.declared.ranging.Target.the-variants.{To, Outside}
 use Rattle.effects.specs.Effects.{ignored, does, owes, answers}
 use Rattle.effects.specs.Ranging.{absolute, moved, answered, unanswered, rangingTime}
-use Rattle.effects.specs.Decisions.{sameSerial, found, assignOnuId, allocChange, assignAllocId, requestRegistration, deactivate, switchOff, switchOn, switched, disable, unknownType, byContent, isBroadcast, isOurs, effectOf, room, fitting, decision}
+use Rattle.decisions.specs.Decisions.{sameSerial, found, assignOnuId, allocChange, assignAllocId, requestRegistration, deactivate, switchOff, switchOn, switched, disable, unknownType, byContent, isBroadcast, isOurs, effectOf, room, fitting, decision}
 
 -- ---- the statement
 

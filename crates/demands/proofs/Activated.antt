@@ -38,9 +38,9 @@ use Rattle.timing.specs.Timing.{frameEnd}
 use Rattle.effects.specs.declared.Change.the-variants.{Range}
 use Rattle.effects.specs.Effects.{answers}
 use Rattle.effects.specs.Ranging.{rangingTime}
-use Rattle.effects.specs.Decisions.{assignOnuId, assignAllocId, isBroadcast, isOurs, effectOf}
+use Rattle.decisions.specs.Decisions.{assignOnuId, assignAllocId, isBroadcast, isOurs, effectOf}
 use Rattle.effects.specs.Changes.{identify, range, applied}
-use Rattle.effects.specs.Acts.{act}
+use Rattle.decisions.specs.Acts.{act}
 use Rattle.activation.specs.Receiving.{acting, receive, messagesFrom, messagesIn, receiveAll}
 use Rattle.engine.specs.Lengths.{lengthFits, enough, buffersFit}
 use Rattle.engine.specs.Partitions.{messagesOf}

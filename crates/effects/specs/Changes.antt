@@ -1,6 +1,7 @@
 -- What an effect does to the station.
 -- Assumes nothing.
 use Prim.Native.Nat.{ℕ}
+use mathlib.Core.Path.{_≡_}
 use Rattle.ids.specs.declared.OnuId.{OnuId}
 use Rattle.station.specs.declared.Activation.the-variants.{Ranging, Operation}
 use Rattle.station.specs.declared.Station.{Station}
@@ -40,3 +41,6 @@ applyDebt s (Owes answer) = withLink s (withOwed (s .link) (owe (s .link .owed) 
 
 unfoldable pub applied : Station → Effect → Station
 applied s e = applyDebt (applyChange s (e .change)) (e .debt)
+
+abbrev pub Applies : Station → Effect → Station → Type 0
+Applies s e r = r ≡ applied s e

@@ -22,7 +22,7 @@ use Rattle.link.specs.declared.Allocs.{Allocs}
 use Rattle.link.specs.Limits.{addedAllocs}
 use Rattle.station.specs.States.{holdsIdentity, o23, o4}
 use Rattle.link.specs.Link.{allocPlace}
-use Rattle.effects.specs.Decisions.{found, isBroadcast}
+use Rattle.decisions.specs.Decisions.{found, isBroadcast}
 use Rattle.conduct.proofs.Valid.{both}
 use Rattle.conduct.proofs.Lists.{not-so}
 use Rattle.ledger.specs.Events.{Event, considered, ended, unread, lost, replied, walked, carriedOver, portAdded, portRemoved, keyGiven, stationOf}

@@ -17,7 +17,7 @@ use Rattle.link.specs.Link.{heldAllocs, allocPlace}
 use Rattle.station.specs.Station.{powerOn}
 use Rattle.ranges.specs.Ranges.{proper, allocsFit}
 use Rattle.entries.specs.declared.Own.{Own}
-use Rattle.effects.specs.Decisions.{found}
+use Rattle.decisions.specs.Decisions.{found}
 use Rattle.conduct.proofs.Valid.{both}
 use Rattle.ledger.specs.Events.{Event, stationOf}
 use Rattle.ledger.specs.Ledger.{holds}

@@ -41,11 +41,11 @@ use Rattle.effects.specs.declared.ranging.Target.{Target}
 use Rattle.effects.specs.declared.ranging.Target.the-variants.{To, Outside}
 use Rattle.effects.specs.Effects.{ignored, does, answers}
 use Rattle.effects.specs.Ranging.{absolute, moved, answered, unanswered, rangingTime}
-use Rattle.effects.specs.Decisions as decided
-use Rattle.effects.specs.Decisions.{found, assignOnuId, allocChange, assignAllocId, requestRegistration, deactivate, switchOff, switchOn, disable, unknownType, isBroadcast, isOurs, effectOf, room, fitting}
+use Rattle.decisions.specs.Decisions as decided
+use Rattle.decisions.specs.Decisions.{found, assignOnuId, allocChange, assignAllocId, requestRegistration, deactivate, switchOff, switchOn, disable, unknownType, isBroadcast, isOurs, effectOf, room, fitting}
 use Rattle.effects.specs.Changes.{identify, range, setDelay, applyChange, applyDebt, applied}
-use Rattle.effects.specs.Acts.{act}
-use Rattle.effects.proofs.Acting.{act-forged}
+use Rattle.decisions.specs.Acts.{act}
+use Rattle.decisions.proofs.Acting.{act-forged}
 use Rattle.activation.specs.Receiving.{acting, receive}
 use Rattle.conduct.proofs.Valid.{both}
 use Rattle.ledger.specs.Entries.{Entry, gave, tookBack, tookAllBack, neither}

@@ -20,7 +20,7 @@ use Rattle.ids.specs.Places.{placeFrom, some}
 use Rattle.link.specs.Link.{noAlloc, heldAllocs, allocPlace, addAlloc, removeAlloc, removeAt}
 use Rattle.ids.proofs.Places.{place-held}
 use Rattle.ranges.specs.Ranges.{proper, allocsFit}
-use Rattle.effects.specs.Decisions.{found}
+use Rattle.decisions.specs.Decisions.{found}
 use Rattle.conduct.proofs.Valid.{both}
 use Rattle.conduct.proofs.Lists.{not-so, found-some, without, closed-up}
 

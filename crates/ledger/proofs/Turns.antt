@@ -18,7 +18,7 @@ use Rattle.station.specs.States.{holdsIdentity}
 use Rattle.link.specs.Link.{noAllocs, heldAllocs, allocPlace, addAlloc, removeAlloc}
 use Rattle.ranges.specs.Ranges.{identityFits, allocsFit}
 use Rattle.entries.specs.declared.Own.{Own}
-use Rattle.effects.specs.Decisions.{found}
+use Rattle.decisions.specs.Decisions.{found}
 use Rattle.conduct.proofs.Valid.{both}
 use Rattle.conduct.proofs.InRangeTimes.{identity-moves}
 use Rattle.conduct.proofs.InRangeLists.{added, removed}

@@ -22,7 +22,7 @@ use Rattle.link.specs.declared.Allocs.{Allocs}
 use Rattle.link.specs.Limits.{addedAllocs, mostOwed}
 use Rattle.station.specs.States.{holdsIdentity, stateNumber, o23, o5}
 use Rattle.link.specs.Link.{allocPlace}
-use Rattle.effects.specs.Decisions.{sameSerial, found, isBroadcast, isOurs}
+use Rattle.decisions.specs.Decisions.{sameSerial, found, isBroadcast, isOurs}
 use Rattle.ledger.specs.Entries.{Entry, gave, tookBack, tookAllBack, neither}
 
 abbrev pub inState : ℕ → Station → Bool
