@@ -4,7 +4,7 @@ use mathlib.Core.Path.{_≡_, refl, ap}
 use Prim.Native.Nat.{ℕ}
 use Rattle.station.specs.declared.Station.{Station}
 use Rattle.station.specs.Station.{withLink}
-use Rattle.station.specs.Held.{withDelay}
+use Rattle.link.specs.Link.{withDelay}
 use Rattle.effects.specs.declared.Effect.{Effect}
 use Rattle.effects.specs.declared.Change.{Change}
 use Rattle.effects.specs.declared.Change.the-variants.{Keep, Identify, Range, Delay as Delays, AddAlloc, RemoveAlloc, Enter}

@@ -20,14 +20,14 @@ use Rattle.ploam.specs.declared.Received.the-variants.{Whole, Short}
 use Rattle.ploam.specs.Layout.{messageOctets, addressOf, typeOf}
 use Rattle.ploam.specs.Reading.{contentAs, messageOf, received}
 use Rattle.station.specs.declared.Station.{Station}
-use Rattle.station.specs.declared.held.Allocs.{Allocs}
-use Rattle.station.specs.declared.held.Queue.{Queue}
-use Rattle.station.specs.declared.held.Response.{Response}
-use Rattle.station.specs.declared.held.Response.the-variants.{Registration, Acknowledgement}
-use Rattle.station.specs.declared.held.Completion.the-variants.{Ok, UnknownMessageType, ParameterError, ProcessingError}
+use Rattle.link.specs.declared.Allocs.{Allocs}
+use Rattle.link.specs.declared.Queue.{Queue}
+use Rattle.link.specs.declared.Response.{Response}
+use Rattle.link.specs.declared.Response.the-variants.{Registration, Acknowledgement}
+use Rattle.link.specs.declared.Completion.the-variants.{Ok, UnknownMessageType, ParameterError, ProcessingError}
 use Rattle.station.specs.States.{stateNumber, o4, o5}
-use Rattle.station.specs.Held.{allocPlace}
-use Rattle.station.specs.Limits.{addedAllocs}
+use Rattle.link.specs.Link.{allocPlace}
+use Rattle.link.specs.Limits.{addedAllocs}
 use Rattle.effects.specs.declared.Change.{Change}
 use Rattle.effects.specs.declared.Change.the-variants.{Keep, Range, AddAlloc, RemoveAlloc}
 use Rattle.effects.specs.declared.Effect.{Effect}
@@ -35,10 +35,10 @@ use Rattle.effects.specs.declared.ranging.Target.{Target}
 use Rattle.effects.specs.declared.ranging.Target.the-variants.{To, Outside}
 use Rattle.effects.specs.Effects.{ignored, owes, isIgnored}
 use Rattle.effects.specs.Ranging.{absolute, moved, answered, rangingTime}
-use Rattle.effects.specs.Decisions.{found, assignOnuId, allocChange, assignAllocId, requestRegistration, disable, unknownType}
-use Rattle.effects.specs.Decisions.{byContent, isBroadcast, isOurs, effectOf, fitting, decision}
-use Rattle.effects.specs.Acts.{act}
-use Rattle.effects.proofs.Acting.{act-ignored}
+use Rattle.decisions.specs.Decisions.{found, assignOnuId, allocChange, assignAllocId, requestRegistration, disable, unknownType}
+use Rattle.decisions.specs.Decisions.{byContent, isBroadcast, isOurs, effectOf, fitting, decision}
+use Rattle.decisions.specs.Acts.{act}
+use Rattle.decisions.proofs.Acting.{act-ignored}
 use Rattle.activation.specs.Receiving.{acting, receive, messageAt, messagesFrom, receiveAll, receivedBy, receivedEachBy}
 use Rattle.activation.specs.Inert.{fullOf, inert, pastInert}
 use Rattle.activation.proofs.Receiving.{each-turn}

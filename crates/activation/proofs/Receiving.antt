@@ -18,9 +18,9 @@ use Rattle.ploam.specs.declared.Received.{Received}
 use Rattle.ploam.specs.declared.Received.the-variants.{Whole, Short}
 use Rattle.integrity.proofs.Keys.{octets-take, default-octets, genuine-by-mix-table}
 use Rattle.station.specs.declared.Station.{Station}
-use Rattle.station.specs.declared.held.Key.{Key}
-use Rattle.station.specs.Held.{noKey}
-use Rattle.effects.proofs.Acting.{act-key}
+use Rattle.link.specs.declared.Key.{Key}
+use Rattle.link.specs.Link.{noKey}
+use Rattle.decisions.proofs.Acting.{act-key}
 use Rattle.activation.specs.Receiving.{acting, receive, messageAt, messagesFrom, receiveAll, genuineNow, receivedBy, receivedEachBy}
 
 -- ---- one turn

@@ -7,8 +7,8 @@ use lib.Dec.{eqb, leb}
 use Rattle.ids.specs.declared.OnuId.{OnuId}
 use Rattle.ids.specs.Ids.{sameOnu, broadcastOnu}
 use Rattle.ploam.specs.Layout.{addressOf, typeOf, deactivateOnuId}
-use Rattle.station.specs.declared.held.Queue.{Queue}
-use Rattle.station.specs.Limits.{mostOwed}
+use Rattle.link.specs.declared.Queue.{Queue}
+use Rattle.link.specs.Limits.{mostOwed}
 use Rattle.activation.specs.Receiving.{messageAt}
 
 abbrev pub fullOf : Queue → Bool

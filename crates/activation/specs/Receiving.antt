@@ -12,7 +12,7 @@ use Rattle.integrity.specs.Integrity.{installedKey, genuine, genuineBy}
 use Rattle.ploam.specs.declared.Received.{Received}
 use Rattle.ploam.specs.declared.Received.the-variants.{Whole, Short}
 use Rattle.station.specs.declared.Station.{Station}
-use Rattle.effects.specs.Acts.{act}
+use Rattle.decisions.specs.Acts.{act}
 
 -- a message acts on the state in which it is considered, and is checked by the key held then
 abbrev pub acting : Station → Bool → Received → Station

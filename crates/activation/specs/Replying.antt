@@ -14,13 +14,13 @@ use Rattle.upstream.specs.declared.UpstreamMessage.the-variants as says
 use Rattle.station.specs.declared.Activation.{Activation}
 use Rattle.station.specs.declared.Activation.the-variants.{Initial, SerialNumber, Ranging, Operation, Intermittent, EmergencyStop}
 use Rattle.station.specs.declared.Station.{Station}
-use Rattle.station.specs.declared.held.Completion.{Completion}
-use Rattle.station.specs.declared.held.Completion.the-variants.{Ok, NoMessage, UnknownMessageType, ParameterError, ProcessingError}
-use Rattle.station.specs.declared.held.Response.{Response}
-use Rattle.station.specs.declared.held.Response.the-variants.{Registration, Acknowledgement}
-use Rattle.station.specs.declared.held.Owed.{Owed}
-use Rattle.station.specs.declared.held.Queue.{Queue}
-use Rattle.station.specs.Held.{oldest, paid, withOwed}
+use Rattle.link.specs.declared.Completion.{Completion}
+use Rattle.link.specs.declared.Completion.the-variants.{Ok, NoMessage, UnknownMessageType, ParameterError, ProcessingError}
+use Rattle.link.specs.declared.Response.{Response}
+use Rattle.link.specs.declared.Response.the-variants.{Registration, Acknowledgement}
+use Rattle.link.specs.declared.Owed.{Owed}
+use Rattle.link.specs.declared.Queue.{Queue}
+use Rattle.link.specs.Link.{oldest, paid, withOwed}
 use Rattle.station.specs.Station.{withLink}
 use Rattle.activation.specs.declared.replying.Reply.{Reply}
 use Rattle.activation.specs.declared.replying.Reply.the-variants.{Silent, Says}

@@ -6,9 +6,9 @@ ghost use lib.ListN.{length};
 ghost use Rattle.ploam.specs.Layout.{messageOctets};
 ghost use Rattle.activation.specs.Inert.{fullOf, inert, pastInert};
 use ids::OnuId;
+use link::Queue;
 use ploam::DEACTIVATE_ONU_ID;
 use ploam::MESSAGE_OCTETS;
-use station::held::Queue;
 
 fn address(high: u8, low: u8) -> OnuId
     ensures { λ r. ⌜ r .0 ≡ (high * 256 + low) % 1024 ⌝ }
@@ -38,7 +38,7 @@ fn is_inert(onu: OnuId, full: bool, m: &[u8]) -> bool
 pub(crate) fn is_full(owed: Queue) -> bool
     ensures { λ r. ⌜ r ≡ fullOf owed ⌝ }
 {
-    station::held::MOST_OWED <= owed.count
+    link::MOST_OWED <= owed.count
 }
 
 // The first message from `from` on that may act, or where they end.

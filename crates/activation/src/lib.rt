@@ -5,7 +5,7 @@ ghost use Prim.Native.Nat.{_-_, _/_};
 ghost use lib.ListN.{length};
 ghost use Rattle.aes.specs.MixTable.{mixTable};
 ghost use Rattle.cmac.specs.ByTable.{Ready};
-ghost use Rattle.station.specs.Limits.{keyOctets};
+ghost use Rattle.link.specs.Limits.{keyOctets};
 ghost use Rattle.effects.specs.Effects.{ignored};
 ghost use Rattle.effects.specs.Changes.{applied};
 ghost use Rattle.activation.specs.Asking.{askedOf};
@@ -49,7 +49,7 @@ fn considered(t: &[u32; 1024], usual: Prepared, installed: Prepared, s: Station,
 {
     match ploam::reading::read(m) {
         Received::Whole(message) => {
-            let e = effects::decide(s, message);
+            let e = decisions::decide(s, message);
             if e.is_ignored() {
                 return ignored();
             }

@@ -4,11 +4,11 @@ ghost use Prim.Native.Nat.{_+_, _*_};
 ghost use Rattle.ploam.specs.Reading.{serialAt};
 ghost use Rattle.activation.specs.Replying.{sent, answering, inOperation, replyOf, afterReply, Replies, Leaves};
 use ids::OnuId;
+use link::Owed;
+use link::Queue;
+use link::Response;
 use station::Activation;
 use station::Station;
-use station::held::Owed;
-use station::held::Queue;
-use station::held::Response;
 use upstream::UpstreamMessage;
 
 // O1, O6 and O7 send nothing.
@@ -18,15 +18,15 @@ pub enum Reply {
 }
 
 // The completion code that the message carries.
-fn sent(code: station::held::Completion) -> upstream::Completion
+fn sent(code: link::Completion) -> upstream::Completion
     ensures { λ r. ⌜ r ≡ sent code ⌝ }
 {
     match code {
-        station::held::Completion::Ok => upstream::Completion::Ok,
-        station::held::Completion::NoMessage => upstream::Completion::NoMessage,
-        station::held::Completion::UnknownMessageType => upstream::Completion::UnknownType,
-        station::held::Completion::ParameterError => upstream::Completion::ParameterError,
-        station::held::Completion::ProcessingError => upstream::Completion::ProcessingError,
+        link::Completion::Ok => upstream::Completion::Ok,
+        link::Completion::NoMessage => upstream::Completion::NoMessage,
+        link::Completion::UnknownMessageType => upstream::Completion::UnknownType,
+        link::Completion::ParameterError => upstream::Completion::ParameterError,
+        link::Completion::ProcessingError => upstream::Completion::ProcessingError,
     }
 }
 

@@ -20,8 +20,8 @@ use Rattle.activation.specs.Receiving.{receiveAll, messagesIn}
 use Rattle.replies.specs.Replies as replied
 use Rattle.replies.specs.Replies.{Replied, repliesFrom}
 use Rattle.xgtc.specs.declared.hlend.Hlend.{Hlend}
-use Rattle.station.specs.declared.slots.Ports.{Ports}
-use Rattle.station.specs.Limits.{slots, slotBytes}
+use Rattle.ports.specs.declared.Ports.{Ports}
+use Rattle.ports.specs.Limits.{slots, slotBytes}
 use Rattle.ranges.specs.Ranges.{inRange, identityFits, allocsFit, portsFit, slotFits, emptySlot, partialFits, partialsFit}
 use Rattle.conduct.proofs.Valid.{both}
 use Rattle.conduct.proofs.Lists.{join, every-get}

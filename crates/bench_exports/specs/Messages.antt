@@ -6,7 +6,7 @@ use Prim.Native.Nat.{ℕ, _+_}
 use lib.ListN.{replicate}
 use Rattle.cmac.specs.declared.Prepared.{Prepared}
 use Rattle.integrity.specs.Integrity.{genuine, genuineBy}
-use Rattle.station.specs.Held.{nothing, installed, withOnu, withKey}
+use Rattle.link.specs.Link.{nothing, installed, withOnu, withKey}
 use Rattle.station.specs.Station.{powerOn, withLink, withActivation}
 use Rattle.station.specs.declared.Activation.the-variants.{Operation}
 use Rattle.station.specs.declared.Station.{Station}

@@ -5,7 +5,7 @@ use mathlib.Core.List.{List, [], _∷_}
 use Prim.Native.Nat.{ℕ, zero, suc, _+_}
 use lib.ListN.{replicate}
 use Rattle.ids.specs.declared.PortId.{PortId}
-use Rattle.station.specs.declared.slots.Ports.{Ports}
+use Rattle.ports.specs.declared.Ports.{Ports}
 
 abbrev pub portsFrom : ℕ → ℕ → List PortId
 portsFrom zero n = []

@@ -6,8 +6,8 @@ use bwmap::Answer;
 use entries::Own;
 use ids::AllocId;
 use ids::OnuId;
+use link::Allocs;
 use station::Activation;
-use station::held::Allocs;
 
 fn bench_own() -> Own
     ensures { λ r. ⌜ r ≡ benchOwn ⌝ }

@@ -5,10 +5,10 @@ ghost use Prim.Native.Nat.{_≤_};
 ghost use Rattle.bench_exports.specs.Messages.{benchStation, benchKey, oneIf, genuineCount, genuineCountBy};
 use cmac::Prepared;
 use ids::OnuId;
+use link::Key;
+use link::Link;
 use station::Activation;
 use station::Station;
-use station::held::Key;
-use station::held::Link;
 
 fn bench_station() -> Station
     ensures { λ r. ⌜ r ≡ benchStation ⌝ }

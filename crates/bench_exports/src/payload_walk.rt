@@ -3,7 +3,7 @@ ghost use mathlib.Core.Path.{_≡_};
 ghost use Rattle.payload.specs.Walk.{receiveOf};
 ghost use Rattle.bench_exports.specs.Ports.{benchPorts, ownPort};
 use ids::PortId;
-use station::slots::Ports;
+use ports::Ports;
 
 fn bench_ports() -> Ports
     ensures { λ r. ⌜ r ≡ benchPorts ⌝ }

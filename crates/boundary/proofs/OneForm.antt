@@ -9,9 +9,10 @@ use lib.Dec.{leb}
 use borrow.Author.Tests.{leb-true}
 use Rattle.framing.specs.Reads.{Found, fields}
 use Rattle.station.specs.declared.Station.{Station}
-use Rattle.station.specs.Limits.{addedAllocs, mostOwed, upstreamWords}
+use Rattle.link.specs.Limits.{addedAllocs, mostOwed}
+use Rattle.station.specs.Limits.{upstreamWords}
 use Rattle.station.specs.Answers.{answerNumber}
-use Rattle.station.specs.Held.{heldAllocs}
+use Rattle.link.specs.Link.{heldAllocs}
 use Rattle.ids.specs.Ids.{assignableAlloc, sameAlloc}
 use Rattle.ranges.specs.Ranges.{inRange, identityFits, allocsFit, portsFit, partialsFit, timerFits, proper}
 use Rattle.conduct.proofs.Valid.{both}

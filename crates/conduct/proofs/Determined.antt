@@ -10,7 +10,8 @@ use Rattle.station.specs.declared.Station.{Station}
 use Rattle.host.specs.declared.Outcome.{Outcome}
 use Rattle.host.specs.Host.{AddLeaves, RemoveLeaves, KeyLeaves}
 use Rattle.effects.specs.declared.Effect.{Effect}
-use Rattle.effects.specs.Acts.{Decides, Applies}
+use Rattle.effects.specs.Changes.{Applies}
+use Rattle.decisions.specs.Acts.{Decides}
 use Rattle.activation.specs.declared.replying.Reply.{Reply}
 use Rattle.activation.specs.Receiving.{AllReceived}
 use Rattle.activation.specs.Replying.{Replies, Leaves}

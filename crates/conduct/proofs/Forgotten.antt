@@ -14,11 +14,11 @@ use Rattle.ploam.specs.declared.Received.the-variants.{Whole, Short}
 use Rattle.station.specs.declared.Activation.{Activation}
 use Rattle.station.specs.declared.Activation.the-variants.{Initial, SerialNumber, Ranging, Operation, Intermittent, EmergencyStop}
 use Rattle.station.specs.declared.Station.{Station}
-use Rattle.station.specs.declared.held.Link.{Link}
+use Rattle.link.specs.declared.Link.{Link}
 use Rattle.station.specs.declared.answers.Answer.{Answer}
 use Rattle.station.specs.States.{holdsIdentity}
-use Rattle.station.specs.Limits.{keyOctets}
-use Rattle.station.specs.Held.{nothing, withDelay, withAllocs, withKey, withOwed, addAlloc, removeAlloc, owe, paid, installed}
+use Rattle.link.specs.Limits.{keyOctets}
+use Rattle.link.specs.Link.{nothing, withDelay, withAllocs, withKey, withOwed, addAlloc, removeAlloc, owe, paid, installed}
 use Rattle.station.specs.Station.{powerOn, enter, withActivation, withLink, withPorts}
 use Rattle.timing.specs.Timing.{countTo1, countTo2, endFrom, frameEnd, silence, lostFrom, lostState, lostTime, unreadFrom, unreadState, unreadTime}
 use Rattle.effects.specs.declared.Change.{Change}
@@ -27,16 +27,16 @@ use Rattle.effects.specs.declared.Debt.{Debt}
 use Rattle.effects.specs.declared.Debt.the-variants.{Free, Owes}
 use Rattle.effects.specs.declared.Effect.{Effect}
 use Rattle.effects.specs.Changes.{identify, range, setDelay, applyChange, applyDebt, applied}
-use Rattle.effects.specs.Decisions.{decision}
-use Rattle.effects.specs.Acts.{act}
-use Rattle.effects.proofs.Acting.{order-of-tests}
+use Rattle.decisions.specs.Decisions.{decision}
+use Rattle.decisions.specs.Acts.{act}
+use Rattle.decisions.proofs.Acting.{order-of-tests}
 use Rattle.ploam.specs.Reading.{received}
 use Rattle.integrity.specs.Integrity.{genuine, installedKey}
 use Rattle.activation.specs.Receiving.{acting, receive, receiveAll}
 use Rattle.activation.specs.Replying.{afterIn, afterReply}
 use Rattle.host.specs.Host.{done, answerToAdd, answerToRemove, answerToKey, afterAdd, afterRemove, afterKey}
 use Rattle.ranges.specs.Ranges.{inRange}
-use Rattle.station.specs.Slots.{addPort, removePort}
+use Rattle.ports.specs.Ports.{addPort, removePort}
 use Rattle.station.specs.declared.answers.Answer.the-variants.{Done, StateOutOfRange, KeyRefused}
 use Rattle.conduct.proofs.Valid.{steady, ValidChange, ValidDebt, Valid, decision-valid}
 

@@ -9,9 +9,11 @@ use lib.Dec.{leb}
 use Rattle.ids.specs.Ids.{broadcastOnu}
 use Rattle.station.specs.declared.Activation.{Activation}
 use Rattle.station.specs.declared.Station.{Station}
-use Rattle.station.specs.Limits.{addedAllocs, mostOwed, addedPorts, slots, upstreamWords}
+use Rattle.link.specs.Limits.{addedAllocs, mostOwed}
+use Rattle.ports.specs.Limits.{addedPorts, slots}
+use Rattle.station.specs.Limits.{upstreamWords}
 use Rattle.station.specs.States.{holdsIdentity}
-use Rattle.station.specs.Held.{nothing}
+use Rattle.link.specs.Link.{nothing}
 use Rattle.station.specs.Station.{powerOn, enter, withActivation}
 use Rattle.ranges.specs.Ranges.{identityFits, allocsFit, portsFit, partialsFit, slotFits, partialFits, timerFits, inRange}
 use Rattle.timing.specs.Timing.{silence}

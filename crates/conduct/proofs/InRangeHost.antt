@@ -10,17 +10,17 @@ use borrow.Author.Tests.{not-false}
 use Rattle.ids.specs.declared.PortId.{PortId}
 use Rattle.ids.specs.Ids.{assignablePort, samePort}
 use Rattle.station.specs.declared.Station.{Station}
-use Rattle.station.specs.declared.held.Place.{Place}
-use Rattle.station.specs.declared.held.Place.the-variants.{At, Nowhere}
-use Rattle.station.specs.declared.slots.Ports.{Ports}
-use Rattle.station.specs.Limits.{addedPorts, slots}
-use Rattle.station.specs.Lists.{some}
-use Rattle.station.specs.Held.{withKey, installed}
-use Rattle.station.specs.Slots.{noPort, portPlace, vacancy, putPort, addPort, removePort}
+use Rattle.ids.specs.declared.Place.{Place}
+use Rattle.ids.specs.declared.Place.the-variants.{At, Nowhere}
+use Rattle.ports.specs.declared.Ports.{Ports}
+use Rattle.ports.specs.Limits.{addedPorts, slots}
+use Rattle.ids.specs.Places.{some}
+use Rattle.link.specs.Link.{withKey, installed}
+use Rattle.ports.specs.Ports.{noPort, portPlace, vacancy, putPort, addPort, removePort}
 use Rattle.station.specs.Station.{withLink, withPorts}
-use Rattle.station.proofs.Places.{place-below}
+use Rattle.ids.proofs.Places.{place-below}
 use Rattle.ranges.specs.Ranges.{held, portsFit, partialsFit, inRange}
-use Rattle.effects.specs.Decisions.{found}
+use Rattle.decisions.specs.Decisions.{found}
 use Rattle.host.specs.Host.{done, answerToAdd, answerToRemove, answerToKey, afterAdd, afterRemove, afterKey}
 use Rattle.host.specs.Host as host
 use Rattle.station.specs.declared.answers.Answer.the-variants.{Done, StateOutOfRange, PortOutOfRange, PortHeldOrNotHeld, SlotsTaken}

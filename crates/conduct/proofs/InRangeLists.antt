@@ -13,18 +13,19 @@ use borrow.Author.Tests.{leb-true, leb-false, le-leb}
 use Rattle.ids.specs.declared.AllocId.{AllocId}
 use Rattle.ids.specs.Ids.{assignableAlloc, sameAlloc}
 use Rattle.station.specs.declared.Station.{Station}
-use Rattle.station.specs.declared.held.Allocs.{Allocs}
-use Rattle.station.specs.declared.held.Owed.{Owed}
-use Rattle.station.specs.declared.held.Queue.{Queue}
-use Rattle.station.specs.declared.held.Place.{Place}
-use Rattle.station.specs.declared.held.Place.the-variants.{At, Nowhere}
-use Rattle.station.specs.Limits.{addedAllocs, mostOwed}
-use Rattle.station.specs.Lists.{closeUp, some}
-use Rattle.station.specs.Held.{noAlloc, blank, heldAllocs, allocPlace, addAlloc, removeAt, owe, paid, withAllocs, withOwed}
+use Rattle.link.specs.declared.Allocs.{Allocs}
+use Rattle.link.specs.declared.Owed.{Owed}
+use Rattle.link.specs.declared.Queue.{Queue}
+use Rattle.ids.specs.declared.Place.{Place}
+use Rattle.ids.specs.declared.Place.the-variants.{At, Nowhere}
+use Rattle.link.specs.Limits.{addedAllocs, mostOwed}
+use Rattle.ids.specs.Places.{some}
+use Rattle.link.specs.Lists.{closeUp}
+use Rattle.link.specs.Link.{noAlloc, blank, heldAllocs, allocPlace, addAlloc, removeAt, owe, paid, withAllocs, withOwed}
 use Rattle.station.specs.Station.{withLink}
-use Rattle.station.proofs.Places.{place-held}
+use Rattle.ids.proofs.Places.{place-held}
 use Rattle.ranges.specs.Ranges.{proper, allocsFit}
-use Rattle.effects.specs.Decisions.{found}
+use Rattle.decisions.specs.Decisions.{found}
 use Rattle.conduct.proofs.Valid.{both}
 use Rattle.conduct.proofs.Lists.{join, found-some, proper-snoc, proper-without, closed-up}
 use Rattle.conduct.proofs.Slots.{eqb-comm}

@@ -16,7 +16,7 @@ use Rattle.station.specs.declared.Activation.{Activation}
 use Rattle.station.specs.declared.Activation.the-variants.{Initial, SerialNumber, Ranging, Operation, Intermittent, EmergencyStop}
 use Rattle.station.specs.declared.Station.{Station}
 use Rattle.station.specs.States.{holdsIdentity}
-use Rattle.station.specs.Held.{allocPlace, addAlloc, removeAlloc, owe, paid}
+use Rattle.link.specs.Link.{allocPlace, addAlloc, removeAlloc, owe, paid}
 use Rattle.ranges.specs.Ranges.{identityFits}
 use Rattle.effects.specs.declared.Change.{Change}
 use Rattle.effects.specs.declared.Change.the-variants.{Keep, Identify, Range, Delay, AddAlloc, RemoveAlloc, Enter}
@@ -24,9 +24,9 @@ use Rattle.effects.specs.declared.Debt.{Debt}
 use Rattle.effects.specs.declared.Debt.the-variants.{Free, Owes}
 use Rattle.effects.specs.declared.Effect.{Effect}
 use Rattle.effects.specs.Changes.{identify, range, setDelay, applyChange, applyDebt, applied}
-use Rattle.effects.specs.Decisions.{decision}
-use Rattle.effects.specs.Acts.{act}
-use Rattle.effects.proofs.Acting.{order-of-tests}
+use Rattle.decisions.specs.Decisions.{decision}
+use Rattle.decisions.specs.Acts.{act}
+use Rattle.decisions.proofs.Acting.{order-of-tests}
 use Rattle.activation.specs.Receiving.{acting, receive, receiveAll}
 use Rattle.activation.specs.Replying.{afterIn, afterReply}
 use Rattle.conduct.proofs.Valid.{ValidChange, Valid, decision-valid}

@@ -7,11 +7,12 @@ use mathlib.Core.Bool.{Bool, true, false, _&&_, _||_, not, cond, false≢true}
 use native.Mathlib.Omega.{arith}
 use lib.ListN.{length, getD, take, drop, set}
 use lib.Seq.{take-append-le}
-use Rattle.station.specs.Lists.{placeFrom, closeUp, some}
-use Rattle.station.specs.declared.held.Place.{Place}
-use Rattle.station.specs.declared.held.Place.the-variants.{At, Nowhere}
+use Rattle.ids.specs.Places.{placeFrom, some}
+use Rattle.link.specs.Lists.{closeUp}
+use Rattle.ids.specs.declared.Place.{Place}
+use Rattle.ids.specs.declared.Place.the-variants.{At, Nowhere}
 use Rattle.ranges.specs.Ranges.{proper, every}
-use Rattle.effects.specs.Decisions.{found}
+use Rattle.decisions.specs.Decisions.{found}
 use Rattle.conduct.proofs.Valid.{both}
 
 pub join : (a b : Bool) → a ≡ true → b ≡ true → (a && b) ≡ true

@@ -12,10 +12,10 @@ use lib.Dec.{eqb, eqb·suc-zero}
 use borrow.Author.Tests.{lt-leb, le-leb}
 use Rattle.ids.specs.declared.OnuId.{OnuId}
 use Rattle.upstream.specs.declared.UpstreamMessage.{UpstreamMessage}
-use Rattle.station.specs.declared.held.Owed.{Owed}
-use Rattle.station.specs.declared.held.Queue.{Queue}
-use Rattle.station.specs.Limits.{mostOwed}
-use Rattle.station.specs.Held.{owedAnswers, owe, oldest, paid, blank}
+use Rattle.link.specs.declared.Owed.{Owed}
+use Rattle.link.specs.declared.Queue.{Queue}
+use Rattle.link.specs.Limits.{mostOwed}
+use Rattle.link.specs.Link.{owedAnswers, owe, oldest, paid, blank}
 use Rattle.activation.specs.Replying.{answering, noMessage, inOperation}
 
 abbrev queue : List Owed → ℕ → Queue

@@ -11,9 +11,9 @@ use lib.Dec.{eqb, leb}
 use borrow.Author.Tests.{eqb-true, eqb-false, leb-true, eq-eqb, ne-eqb, le-leb}
 use Rattle.ids.specs.declared.PortId.{PortId}
 use Rattle.ids.specs.Ids.{assignablePort, samePort}
-use Rattle.station.specs.Lists.{some}
-use Rattle.station.specs.Limits.{slots, slotBytes}
-use Rattle.station.specs.Slots.{noPort}
+use Rattle.ids.specs.Places.{some}
+use Rattle.ports.specs.Limits.{slots, slotBytes}
+use Rattle.ports.specs.Ports.{noPort}
 use Rattle.ranges.specs.Ranges.{proper, held, portsFit, emptySlot, partialFits, slotFits, partialsFit, every}
 use Rattle.conduct.proofs.Valid.{both}
 use Rattle.conduct.proofs.Lists.{join, neither, nor, not-so, so-not, every-get, every-make}

@@ -10,13 +10,13 @@ use Rattle.ploam.specs.declared.Content.the-variants.{RangingTime}
 use Rattle.ploam.specs.Reading.{contentAs, contentOf}
 use Rattle.station.specs.declared.Activation.the-variants.{Operation}
 use Rattle.station.specs.declared.Station.{Station}
-use Rattle.station.specs.declared.held.Owed.{Owed}
-use Rattle.station.specs.declared.held.Response.the-variants.{Acknowledgement}
-use Rattle.station.specs.declared.held.Completion.the-variants.{ParameterError}
-use Rattle.station.specs.Held.{withOwed, owe}
+use Rattle.link.specs.declared.Owed.{Owed}
+use Rattle.link.specs.declared.Response.the-variants.{Acknowledgement}
+use Rattle.link.specs.declared.Completion.the-variants.{ParameterError}
+use Rattle.link.specs.Link.{withOwed, owe}
 use Rattle.station.specs.Station.{withLink}
 use Rattle.effects.specs.Ranging.{rangingTime}
-use Rattle.effects.specs.Decisions.{byContent}
+use Rattle.decisions.specs.Decisions.{byContent}
 use Rattle.effects.specs.Changes.{applied}
 
 -- Ranging_Time to ONU-ID 5 with SeqNo 7: relative, subtract, 1

@@ -20,10 +20,10 @@ use Rattle.ploam.specs.Reading.{serialAt}
 use Rattle.station.specs.declared.Activation.{Activation}
 use Rattle.station.specs.declared.Activation.the-variants.{Initial, SerialNumber, Ranging, Operation, Intermittent, EmergencyStop}
 use Rattle.station.specs.declared.Station.{Station}
-use Rattle.station.specs.declared.held.Allocs.{Allocs}
-use Rattle.station.specs.Limits.{addedAllocs, mostOwed}
+use Rattle.link.specs.declared.Allocs.{Allocs}
+use Rattle.link.specs.Limits.{addedAllocs, mostOwed}
 use Rattle.station.specs.States.{holdsIdentity, stateNumber, o4, o5}
-use Rattle.station.specs.Held.{allocPlace}
+use Rattle.link.specs.Link.{allocPlace}
 use Rattle.ranges.specs.Ranges.{timerFits}
 use Rattle.effects.specs.declared.Change.{Change}
 use Rattle.effects.specs.declared.Change.the-variants.{Keep, Identify, Range, Delay, AddAlloc, RemoveAlloc, Enter}
@@ -34,7 +34,7 @@ use Rattle.effects.specs.declared.ranging.Target.{Target}
 use Rattle.effects.specs.declared.ranging.Target.the-variants.{To, Outside}
 use Rattle.effects.specs.Effects.{ignored, does, owes, answers}
 use Rattle.effects.specs.Ranging.{absolute, moved, answered, unanswered, rangingTime}
-use Rattle.effects.specs.Decisions.{sameSerial, found, assignOnuId, allocChange, assignAllocId, requestRegistration, deactivate, switchOff, switchOn, switched, disable, unknownType, byContent, isBroadcast, isOurs, effectOf, room, fitting, decision}
+use Rattle.decisions.specs.Decisions.{sameSerial, found, assignOnuId, allocChange, assignAllocId, requestRegistration, deactivate, switchOff, switchOn, switched, disable, unknownType, byContent, isBroadcast, isOurs, effectOf, room, fitting, decision}
 
 -- ---- the statement
 

@@ -28,20 +28,20 @@ use Rattle.integrity.proofs.Signed.{mic-length, signed-right}
 use Rattle.station.specs.declared.Station.{Station}
 use Rattle.station.specs.declared.Activation.{Activation}
 use Rattle.station.specs.declared.Activation.the-variants.{Operation}
-use Rattle.station.specs.declared.held.Allocs.{Allocs}
-use Rattle.station.specs.declared.held.Completion.the-variants.{Ok}
-use Rattle.station.specs.declared.held.Owed.{Owed}
-use Rattle.station.specs.declared.held.Response.the-variants.{Acknowledgement}
-use Rattle.station.specs.declared.slots.Ports.{Ports}
-use Rattle.station.specs.Held.{noKey, noAllocs, noneOwed, addAlloc, owe}
-use Rattle.station.specs.Slots.{noPorts, clearManagement}
+use Rattle.link.specs.declared.Allocs.{Allocs}
+use Rattle.link.specs.declared.Completion.the-variants.{Ok}
+use Rattle.link.specs.declared.Owed.{Owed}
+use Rattle.link.specs.declared.Response.the-variants.{Acknowledgement}
+use Rattle.ports.specs.declared.Ports.{Ports}
+use Rattle.link.specs.Link.{noKey, noAllocs, noneOwed, addAlloc, owe}
+use Rattle.ports.specs.Ports.{noPorts, clearManagement}
 use Rattle.timing.specs.Timing.{frameEnd}
 use Rattle.effects.specs.declared.Change.the-variants.{Range}
 use Rattle.effects.specs.Effects.{answers}
 use Rattle.effects.specs.Ranging.{rangingTime}
-use Rattle.effects.specs.Decisions.{assignOnuId, assignAllocId, isBroadcast, isOurs, effectOf}
+use Rattle.decisions.specs.Decisions.{assignOnuId, assignAllocId, isBroadcast, isOurs, effectOf}
 use Rattle.effects.specs.Changes.{identify, range, applied}
-use Rattle.effects.specs.Acts.{act}
+use Rattle.decisions.specs.Acts.{act}
 use Rattle.activation.specs.Receiving.{acting, receive, messagesFrom, messagesIn, receiveAll}
 use Rattle.arrival.specs.Lengths.{lengthFits, enough, buffersFit}
 use Rattle.arrival.specs.Partitions.{messagesOf}

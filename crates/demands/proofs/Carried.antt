@@ -20,9 +20,9 @@ use Rattle.effects.specs.declared.Change.the-variants.{Keep, Identify, Range, D
 use Rattle.effects.specs.declared.Debt.{Debt}
 use Rattle.effects.specs.declared.Debt.the-variants.{Free, Owes}
 use Rattle.effects.specs.declared.Effect.{Effect}
-use Rattle.effects.specs.Decisions.{isOurs, effectOf, fitting}
+use Rattle.decisions.specs.Decisions.{isOurs, effectOf, fitting}
 use Rattle.effects.specs.Changes.{identify, range, setDelay, applyChange, applyDebt, applied}
-use Rattle.effects.specs.Acts.{act}
+use Rattle.decisions.specs.Acts.{act}
 use Rattle.activation.specs.Receiving.{acting, receive, receiveAll}
 use Rattle.host.specs.Host.{done, answerToAdd, answerToRemove, answerToKey, afterAdd, afterRemove, afterKey}
 

@@ -21,10 +21,10 @@ use Rattle.xgtc.specs.Reads.{readHlend}
 use Rattle.station.specs.declared.Activation.the-variants.{Operation, Intermittent}
 use Rattle.station.specs.declared.Station.{Station}
 use Rattle.station.specs.declared.answers.Answer.the-variants.{Done}
-use Rattle.station.specs.declared.held.Allocs.{Allocs}
+use Rattle.link.specs.declared.Allocs.{Allocs}
 use Rattle.station.specs.Limits.{to2}
-use Rattle.station.specs.Held.{noAllocs}
-use Rattle.station.specs.Slots.{noPorts}
+use Rattle.link.specs.Link.{noAllocs}
+use Rattle.ports.specs.Ports.{noPorts}
 use Rattle.ranges.specs.Ranges.{inRange, identityFits, allocsFit, portsFit, partialsFit, slotFits, partialFits}
 use Rattle.timing.specs.Timing.{frameEnd, lostState, lostTime, silence}
 use Rattle.entries.specs.Standings.{standing, sorted, startUnfit, noRoom, continues, held}

@@ -14,9 +14,9 @@ use Rattle.ploam.specs.declared.Received.the-variants.{Whole, Short}
 use Rattle.integrity.proofs.Signed.{signed-right}
 use Rattle.upstream.proofs.RoundTrip.{round-trip}
 use Rattle.station.specs.declared.Station.{Station}
-use Rattle.effects.specs.Decisions.{isOurs, effectOf, fitting}
+use Rattle.decisions.specs.Decisions.{isOurs, effectOf, fitting}
 use Rattle.effects.specs.Changes.{applied}
-use Rattle.effects.specs.Acts.{act}
+use Rattle.decisions.specs.Acts.{act}
 use Rattle.activation.specs.Receiving.{acting, receive}
 use Rattle.demands.specs.Engine.{lingbarrow}
 use Rattle.demands.specs.Demand2.{Demand2}

@@ -11,7 +11,7 @@ use Rattle.framing.specs.Writes as writing
 use Rattle.framing.specs.declared.octets.Written.the-variants as Written
 use Rattle.station.specs.declared.Station.{Station}
 use Rattle.station.specs.declared.answers.Answer.the-variants.{StateOutOfRange}
-use Rattle.station.specs.Held.{noAllocs, withAllocs}
+use Rattle.link.specs.Link.{noAllocs, withAllocs}
 use Rattle.station.specs.Station.{withLink}
 use Rattle.host.specs.declared.Outcome.{Outcome}
 use Rattle.arrival.specs.Lengths.{Lent}

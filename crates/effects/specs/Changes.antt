@@ -1,12 +1,13 @@
 -- What an effect does to the station.
 -- Assumes nothing.
 use Prim.Native.Nat.{ℕ}
+use mathlib.Core.Path.{_≡_}
 use Rattle.ids.specs.declared.OnuId.{OnuId}
 use Rattle.station.specs.declared.Activation.the-variants.{Ranging, Operation}
 use Rattle.station.specs.declared.Station.{Station}
 use Rattle.station.specs.Limits.{to1}
-use Rattle.station.specs.Held.{withOnu, withDelay, withAllocs, withOwed, addAlloc, removeAlloc, owe}
-use Rattle.station.specs.Slots.{clearManagement}
+use Rattle.link.specs.Link.{withOnu, withDelay, withAllocs, withOwed, addAlloc, removeAlloc, owe}
+use Rattle.ports.specs.Ports.{clearManagement}
 use Rattle.station.specs.Station.{enter, withActivation, withLink, withPorts}
 use Rattle.effects.specs.declared.Change.{Change}
 use Rattle.effects.specs.declared.Change.the-variants.{Keep, Identify, Range, Delay, AddAlloc, RemoveAlloc, Enter}
@@ -40,3 +41,6 @@ applyDebt s (Owes answer) = withLink s (withOwed (s .link) (owe (s .link .owed) 
 
 unfoldable pub applied : Station → Effect → Station
 applied s e = applyDebt (applyChange s (e .change)) (e .debt)
+
+abbrev pub Applies : Station → Effect → Station → Type 0
+Applies s e r = r ≡ applied s e

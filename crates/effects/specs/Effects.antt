@@ -2,9 +2,9 @@
 -- Assumes nothing.
 use Prim.Native.Nat.{ℕ}
 use mathlib.Core.Bool.{Bool, true, false, _&&_}
-use Rattle.station.specs.declared.held.Completion.{Completion}
-use Rattle.station.specs.declared.held.Response.{Response}
-use Rattle.station.specs.declared.held.Response.the-variants.{Acknowledgement}
+use Rattle.link.specs.declared.Completion.{Completion}
+use Rattle.link.specs.declared.Response.{Response}
+use Rattle.link.specs.declared.Response.the-variants.{Acknowledgement}
 use Rattle.effects.specs.declared.Change.{Change}
 use Rattle.effects.specs.declared.Change.the-variants.{Keep, Identify, Range, Delay, AddAlloc, RemoveAlloc, Enter}
 use Rattle.effects.specs.declared.Debt.{Debt}

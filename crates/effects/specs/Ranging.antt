@@ -7,7 +7,7 @@ use mathlib.Core.Bool.{Bool, true, false, _&&_, not, cond}
 use lib.Dec.{eqb, leb}
 use Rattle.ploam.specs.declared.Adjustment.{Adjustment}
 use Rattle.ploam.specs.declared.Adjustment.the-variants.{Absolute, Add, Subtract}
-use Rattle.station.specs.declared.held.Completion.the-variants.{Ok, ParameterError}
+use Rattle.link.specs.declared.Completion.the-variants.{Ok, ParameterError}
 use Rattle.station.specs.States.{o4, o5}
 use Rattle.effects.specs.declared.Change.the-variants.{Keep, Range, Delay}
 use Rattle.effects.specs.declared.Effect.{Effect}

@@ -1,18 +1,28 @@
-// What a downstream message does to the station. The decision is apart from what it does: an effect is told by the
-// message and the state, and applied once the message has been found genuine.
+// What a downstream message can do to the station, and what Ranging_Time does. The decision is apart from what it does:
+// an effect is told by the message and the state, in crate `decisions`, and applied once the message has been found
+// genuine.
 ghost use mathlib.Core.Path.{_≡_};
-ghost use Rattle.effects.specs.Effects.{isIgnored};
-ghost use Rattle.effects.specs.Acts.{Decides, Applies};
+ghost use Rattle.effects.specs.Effects.{ignored, does, owes, answers, isIgnored};
+ghost use Rattle.effects.specs.Changes.{Applies};
 use ids::AllocId;
 use ids::OnuId;
-use ploam::Message;
+use link::Completion;
+use link::Owed;
+use link::Response;
 use station::Activation;
 use station::Station;
-use station::held::Owed;
 
 mod changes;
-mod decisions;
-mod ranging;
+pub mod ranging;
+
+// The states by the numbers that the paper gives them.
+pub const O23: u8 = 2;
+
+pub const O4: u8 = 4;
+
+pub const O5: u8 = 5;
+
+pub const O7: u8 = 7;
 
 // What becomes of the state.
 pub enum Change {
@@ -57,11 +67,41 @@ impl Effect {
     }
 }
 
-// What the message does to the station if it is genuine.
-pub fn decide(s: Station, m: Message) -> Effect
-    ensures { λ r. ⌜ Decides s m r ⌝ }
+pub fn ignored() -> Effect
+    ensures { λ r. ⌜ r ≡ ignored ⌝ }
 {
-    decisions::decide(s, m)
+    Effect {
+        change: Change::Keep,
+        debt: Debt::Free,
+    }
+}
+
+pub fn does(change: Change) -> Effect
+    ensures { λ r. ⌜ r ≡ does change ⌝ }
+{
+    Effect {
+        change: change,
+        debt: Debt::Free,
+    }
+}
+
+pub fn owes(change: Change, response: Response, seq: u8) -> Effect
+    ensures { λ r. ⌜ r ≡ owes change response seq ⌝ }
+{
+    let owed = Owed {
+        response: response,
+        seq_no: seq,
+    };
+    Effect {
+        change: change,
+        debt: Debt::Owes(owed),
+    }
+}
+
+pub fn answers(change: Change, code: Completion, seq: u8) -> Effect
+    ensures { λ r. ⌜ r ≡ answers change code seq ⌝ }
+{
+    owes(change, Response::Acknowledgement(code), seq)
 }
 
 pub fn apply(s: Station, e: Effect) -> Station

@@ -5,13 +5,13 @@ ghost use Rattle.effects.specs.Effects.{does, answers, ignored};
 ghost use Rattle.effects.specs.Ranging.{absolute, moved, answered, unanswered, rangingTime};
 use crate::Change;
 use crate::Effect;
-use crate::decisions::O4;
-use crate::decisions::O5;
-use crate::decisions::answers;
-use crate::decisions::does;
-use crate::decisions::ignored;
+use crate::O4;
+use crate::O5;
+use crate::answers;
+use crate::does;
+use crate::ignored;
+use link::Completion;
 use ploam::Adjustment;
-use station::held::Completion;
 
 // Where a delay goes: to a number of 32 bits, or outside.
 pub enum Target {
@@ -69,7 +69,7 @@ fn unanswered(to: Target) -> Effect
     }
 }
 
-pub(crate) fn ranging_time(
+pub fn ranging_time(
     state: u8,
     broadcast: bool,
     delay: u32,

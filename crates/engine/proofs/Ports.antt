@@ -11,12 +11,12 @@ use lib.Seq.{getD-set-same, getD-set-other}
 use borrow.Author.Tests.{eqb-true, eqb-false, leb-true, ltb-false, le-leb, ne-eqb}
 use Rattle.ids.specs.declared.PortId.{PortId}
 use Rattle.ids.specs.Ids.{assignablePort, samePort}
-use Rattle.station.specs.declared.held.Place.{Place}
-use Rattle.station.specs.declared.held.Place.the-variants.{At, Nowhere}
-use Rattle.station.specs.declared.slots.Ports.{Ports}
-use Rattle.station.specs.Limits.{addedPorts, slots, slotBytes}
-use Rattle.station.specs.Lists.{Below, placeFrom}
-use Rattle.station.specs.Slots.{noPort, dropOne, dropAll}
+use Rattle.ids.specs.declared.Place.{Place}
+use Rattle.ids.specs.declared.Place.the-variants.{At, Nowhere}
+use Rattle.ports.specs.declared.Ports.{Ports}
+use Rattle.ports.specs.Limits.{addedPorts, slots, slotBytes}
+use Rattle.ids.specs.Places.{Below, placeFrom}
+use Rattle.ports.specs.Ports.{noPort, dropOne, dropAll}
 use Rattle.ranges.specs.Ranges.{portsFit, emptySlot, partialFits, slotFits, partialsFit}
 use Rattle.conduct.proofs.Valid.{both}
 use Rattle.conduct.proofs.Lists.{every-get, every-make}

@@ -10,8 +10,8 @@ use lib.Dec.{ltb}
 use lib.ListN.{length, getD, take}
 use lib.Seq.{slice}
 use borrow.Author.Tests.{ltb-true, ltb-false}
-use Rattle.station.specs.Lists.{some}
-use Rattle.station.proofs.Places.{slice-next, slice-past}
+use Rattle.ids.specs.Places.{some}
+use Rattle.ids.proofs.Places.{slice-next, slice-past}
 
 or-assoc : (a b d : Bool) → ((a || b) || d) ≡ (a || (b || d))
 or-assoc true b d = refl

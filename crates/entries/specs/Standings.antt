@@ -14,9 +14,9 @@ use Rattle.xgtc.specs.Layouts.{allocationOf}
 use Rattle.framing.specs.Reads.{Found, fields, unreadable, short, readAs}
 use Rattle.station.specs.declared.Activation.{Activation}
 use Rattle.station.specs.declared.Activation.the-variants.{Initial, SerialNumber, Ranging, Operation, Intermittent, EmergencyStop}
-use Rattle.station.specs.declared.held.Allocs.{Allocs}
-use Rattle.station.specs.Lists.{some}
-use Rattle.station.specs.Held.{heldAllocs}
+use Rattle.link.specs.declared.Allocs.{Allocs}
+use Rattle.ids.specs.Places.{some}
+use Rattle.link.specs.Link.{heldAllocs}
 use Rattle.entries.specs.Limits.{structureOctets, lastStart, continuing}
 use Rattle.entries.specs.declared.Own.{Own}
 use Rattle.entries.specs.declared.Verdict.{Verdict}

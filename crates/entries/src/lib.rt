@@ -3,15 +3,15 @@ mod reading;
 
 use ids::AllocId;
 use ids::OnuId;
+use link::Allocs;
 use station::Activation;
-use station::held::Allocs;
 use xgtc::allocation::Allocation;
 use xgtc::allocation::AllocationRead;
 ghost use mathlib.Core.Path.{_≡_};
 ghost use mathlib.Core.Bool.{_||_, _&&_};
 ghost use lib.ListN.{take};
 ghost use Rattle.xgtc.specs.Reads.{foundAllocation};
-ghost use Rattle.station.specs.Lists.{some};
+ghost use Rattle.ids.specs.Places.{some};
 ghost use Rattle.ids.specs.Ids.{sameAlloc};
 ghost use Rattle.entries.specs.Standings.{isPlanned, startUnfit, noRoom, continues, held, discovery, ranging, ours, silent, sorted, standing, readBy};
 
@@ -105,7 +105,7 @@ fn among(ids: [AllocId; 16], n: usize, id: AllocId) -> bool
 {
     let mut hit = false;
     let mut i: usize = 0;
-    while i < station::held::ADDED_ALLOCS {
+    while i < link::ADDED_ALLOCS {
         let other = ids[i];
         hit = or_is(hit, i < n, id, other);
         i += 1;

@@ -10,12 +10,12 @@ use lib.Dec.{eqb, ltb}
 use lib.ListN.{length, getD}
 use Rattle.ids.specs.declared.PortId.{PortId}
 use Rattle.ids.specs.Ids.{samePort, assignablePort}
-use Rattle.station.specs.declared.slots.Ports.{Ports}
-use Rattle.station.specs.declared.held.Place.{Place}
-use Rattle.station.specs.declared.held.Place.the-variants.{At, Nowhere}
-use Rattle.station.specs.Limits.{slots, addedPorts, slotBytes}
-use Rattle.station.specs.Lists.{Below, placeFrom}
-use Rattle.station.specs.Slots.{portPlace}
+use Rattle.ports.specs.declared.Ports.{Ports}
+use Rattle.ids.specs.declared.Place.{Place}
+use Rattle.ids.specs.declared.Place.the-variants.{At, Nowhere}
+use Rattle.ports.specs.Limits.{slots, addedPorts, slotBytes}
+use Rattle.ids.specs.Places.{Below, placeFrom}
+use Rattle.ports.specs.Ports.{portPlace}
 use Rattle.fragments.specs.declared.Effect.{Effect}
 use Rattle.fragments.specs.declared.Effect.the-variants.{Nothing, Discard, Deliver, Append}
 use Rattle.fragments.specs.Fragments.{behind, slotOf, atSlot, atPlace, effectOf}

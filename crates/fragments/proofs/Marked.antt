@@ -8,9 +8,9 @@ use native.Mathlib.Omega.{arith}
 use native.Mathlib.Numerals.{add-one}
 use lib.ListN.{length, getD, drop, drop-of-length-le}
 use lib.Seq.{drop-cons}
-use Rattle.station.specs.declared.held.Place.{Place}
-use Rattle.station.specs.declared.held.Place.the-variants.{At, Nowhere}
-use Rattle.station.specs.Lists.{placeFrom}
+use Rattle.ids.specs.declared.Place.{Place}
+use Rattle.ids.specs.declared.Place.the-variants.{At, Nowhere}
+use Rattle.ids.specs.Places.{placeFrom}
 use Rattle.fragments.specs.Marks.{marks}
 
 module _ {A : Type 0} (f : A → Bool) where

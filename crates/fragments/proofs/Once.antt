@@ -4,7 +4,7 @@ use Prim.Native.Nat.{ℕ}
 use mathlib.Core.Path.{_≡_, _∙_, sym}
 use mathlib.Core.Bool.{Bool}
 use Rattle.ids.specs.declared.PortId.{PortId}
-use Rattle.station.specs.declared.slots.Ports.{Ports}
+use Rattle.ports.specs.declared.Ports.{Ports}
 use Rattle.fragments.specs.declared.Effect.{Effect}
 use Rattle.fragments.specs.Fragments.{effectOf}
 

@@ -7,11 +7,11 @@ use lib.Dec.{eqb, ltb}
 use lib.ListN.{getD}
 use Rattle.ids.specs.declared.PortId.{PortId}
 use Rattle.ids.specs.Ids.{samePort, assignablePort}
-use Rattle.station.specs.declared.slots.Ports.{Ports}
-use Rattle.station.specs.declared.held.Place.{Place}
-use Rattle.station.specs.declared.held.Place.the-variants.{At, Nowhere}
-use Rattle.station.specs.Limits.{slotBytes}
-use Rattle.station.specs.Lists.{placeFrom}
+use Rattle.ports.specs.declared.Ports.{Ports}
+use Rattle.ids.specs.declared.Place.{Place}
+use Rattle.ids.specs.declared.Place.the-variants.{At, Nowhere}
+use Rattle.ports.specs.Limits.{slotBytes}
+use Rattle.ids.specs.Places.{placeFrom}
 use Rattle.fragments.specs.declared.Effect.{Effect}
 use Rattle.fragments.specs.declared.Effect.the-variants.{Nothing, Discard, Deliver, Append}
 

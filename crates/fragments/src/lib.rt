@@ -4,15 +4,15 @@ ghost use mathlib.Core.Bool.{cond};
 ghost use mathlib.Core.List.{[]};
 ghost use Prim.Native.Nat.{_+_, _≤_, _<_};
 ghost use Rattle.ids.specs.Ids.{samePort};
-ghost use Rattle.station.specs.Limits.{slots, addedPorts};
-ghost use Rattle.station.specs.Lists.{Below, placeFrom};
+ghost use Rattle.ports.specs.Limits.{slots, addedPorts};
+ghost use Rattle.ids.specs.Places.{Below, placeFrom};
 ghost use Rattle.fragments.specs.Fragments.{behind, slotIn, slotOf, atSlot, atPlace, effectOf};
 ghost use Rattle.fragments.specs.Marks.{marks};
+use ids::Place;
 use ids::PortId;
-use station::held::Place;
-use station::limits::SLOT_BYTES;
-use station::slots::ADDED_PORTS;
-use station::slots::Ports;
+use ports::ADDED_PORTS;
+use ports::Ports;
+use ports::SLOT_BYTES;
 
 pub enum Effect {
     Nothing,

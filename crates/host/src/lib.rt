@@ -2,11 +2,11 @@
 ghost use mathlib.Core.Path.{_≡_};
 ghost use Rattle.host.specs.Host.{found, done, outcome, answerToAdd, answerToRemove, answerToKey};
 ghost use Rattle.host.specs.Host.{AddLeaves, RemoveLeaves, KeyLeaves, afterAdd, afterRemove, afterKey};
+use ids::Place;
 use ids::PortId;
+use link::Key;
 use station::Station;
 use station::answers::Answer;
-use station::held::Key;
-use station::held::Place;
 
 // What a call answers and the station that it leaves.
 pub struct Outcome {

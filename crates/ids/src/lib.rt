@@ -15,6 +15,12 @@ pub struct AllocId(pub u16);
 // Names an XGEM port: 16 bits.
 pub struct PortId(pub u16);
 
+// Where an identifier stands in a list, if it does.
+pub enum Place {
+    At(usize),
+    Nowhere,
+}
+
 // Table 6-1: the last ONU-ID that a station can have, and the one above it, the broadcast address and that of a
 // station that has none.
 const LAST_ONU: u16 = 1022;

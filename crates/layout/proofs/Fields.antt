@@ -13,15 +13,15 @@ use Rattle.framing.specs.Octets.{value, octets}
 use Rattle.framing.proofs.Numbers.{value-octets, octets-length}
 use Rattle.station.specs.declared.Activation.{Activation}
 use Rattle.station.specs.declared.Activation.the-variants.{Initial, SerialNumber, Ranging, Operation, Intermittent, EmergencyStop}
-use Rattle.station.specs.declared.held.Response.{Response}
-use Rattle.station.specs.declared.held.Response.the-variants.{Registration, Acknowledgement}
-use Rattle.station.specs.declared.held.Completion.the-variants.{Ok, NoMessage, UnknownMessageType, ParameterError, ProcessingError}
-use Rattle.station.specs.declared.held.Owed.{Owed}
-use Rattle.station.specs.declared.held.Key.{Key}
-use Rattle.station.specs.declared.held.Allocs.{Allocs}
-use Rattle.station.specs.declared.held.Queue.{Queue}
-use Rattle.station.specs.declared.held.Link.{Link}
-use Rattle.station.specs.declared.slots.Ports.{Ports}
+use Rattle.link.specs.declared.Response.{Response}
+use Rattle.link.specs.declared.Response.the-variants.{Registration, Acknowledgement}
+use Rattle.link.specs.declared.Completion.the-variants.{Ok, NoMessage, UnknownMessageType, ParameterError, ProcessingError}
+use Rattle.link.specs.declared.Owed.{Owed}
+use Rattle.link.specs.declared.Key.{Key}
+use Rattle.link.specs.declared.Allocs.{Allocs}
+use Rattle.link.specs.declared.Queue.{Queue}
+use Rattle.link.specs.declared.Link.{Link}
+use Rattle.ports.specs.declared.Ports.{Ports}
 use Rattle.layout.specs.Rows.{part, each, many}
 use Rattle.layout.specs.Layout.{timeLeft, activationOctets, activationBy, activationOf, allocOctets, allocOf, portOctets, portOf, lengthOctets, markNumber, markOctets, markOf, responseNumber, responseBy, owedOctets, owedOf, allocsOctets, allocsOf, keyOctets, keyOf, queueOctets, queueOf, linkOctets, linkOf, portsOctets, portsOf}
 use Rattle.layout.specs.Typed.{Every}

@@ -10,16 +10,16 @@ use super::numbers;
 use ids::AllocId;
 use ids::OnuId;
 use ids::PortId;
+use link::Allocs;
+use link::Completion;
+use link::Key;
+use link::Link;
+use link::Owed;
+use link::Queue;
+use link::Response;
+use ports::Ports;
 use station::Activation;
 use station::Station;
-use station::held::Allocs;
-use station::held::Completion;
-use station::held::Key;
-use station::held::Link;
-use station::held::Owed;
-use station::held::Queue;
-use station::held::Response;
-use station::slots::Ports;
 
 pub(crate) fn activation_by(number: u8, left: u32) -> Activation
     ensures { λ r. ⌜ r ≡ activationBy number left ⌝ }

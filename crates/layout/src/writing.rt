@@ -9,15 +9,15 @@ ghost use Rattle.layout.specs.Layout.{allocsOctets, keyOctets, queueOcte
 use super::numbers;
 use ids::AllocId;
 use ids::PortId;
+use link::Allocs;
+use link::Key;
+use link::Link;
+use link::Owed;
+use link::Queue;
+use link::Response;
+use ports::Ports;
 use station::Activation;
 use station::Station;
-use station::held::Allocs;
-use station::held::Key;
-use station::held::Link;
-use station::held::Owed;
-use station::held::Queue;
-use station::held::Response;
-use station::slots::Ports;
 
 pub(crate) fn time_left(a: Activation) -> u32
     ensures { λ r. ⌜ r ≡ timeLeft a ⌝ }

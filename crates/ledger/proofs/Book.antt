@@ -6,7 +6,7 @@ use mathlib.Core.Bool.{Bool, true, false, _&&_, _||_, not, false≢true}
 use mathlib.Core.List.{List, [], _∷_, _++_}
 use lib.Dec.{eqb}
 use borrow.Author.Tests.{eqb-true, eq-eqb}
-use Rattle.station.specs.Lists.{some}
+use Rattle.ids.specs.Places.{some}
 use Rattle.conduct.proofs.Valid.{both}
 use Rattle.conduct.proofs.Lists.{neither as neither-of, nor, not-so}
 use Rattle.ledger.specs.Entries.{Entry, gave, tookBack, tookAllBack, neither, takesBack}

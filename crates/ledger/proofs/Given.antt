@@ -18,11 +18,11 @@ use Rattle.ploam.specs.declared.Content.the-variants.{AssignOnuId, DeactivateOn
 use Rattle.ploam.specs.Layout.{number16, octet, typeOf}
 use Rattle.ploam.specs.Reading.{onuIn, allocIn, serialFrom, switchOf, changeOf, contentAs, contentOf, messageOf}
 use Rattle.station.specs.declared.Station.{Station}
-use Rattle.station.specs.declared.held.Allocs.{Allocs}
-use Rattle.station.specs.Limits.{addedAllocs}
+use Rattle.link.specs.declared.Allocs.{Allocs}
+use Rattle.link.specs.Limits.{addedAllocs}
 use Rattle.station.specs.States.{holdsIdentity, o23, o4}
-use Rattle.station.specs.Held.{allocPlace}
-use Rattle.effects.specs.Decisions.{found, isBroadcast}
+use Rattle.link.specs.Link.{allocPlace}
+use Rattle.decisions.specs.Decisions.{found, isBroadcast}
 use Rattle.conduct.proofs.Valid.{both}
 use Rattle.conduct.proofs.Lists.{not-so}
 use Rattle.ledger.specs.Events.{Event, considered, ended, unread, lost, replied, walked, carriedOver, portAdded, portRemoved, keyGiven, stationOf}

@@ -11,13 +11,13 @@ use borrow.Author.Tests.{eq-eqb, leb-true}
 use Rattle.ids.specs.declared.AllocId.{AllocId}
 use Rattle.ids.specs.Ids.{assignableAlloc, sameAlloc}
 use Rattle.station.specs.declared.Station.{Station}
-use Rattle.station.specs.declared.held.Allocs.{Allocs}
-use Rattle.station.specs.Limits.{addedAllocs}
-use Rattle.station.specs.Held.{heldAllocs, allocPlace}
+use Rattle.link.specs.declared.Allocs.{Allocs}
+use Rattle.link.specs.Limits.{addedAllocs}
+use Rattle.link.specs.Link.{heldAllocs, allocPlace}
 use Rattle.station.specs.Station.{powerOn}
 use Rattle.ranges.specs.Ranges.{proper, allocsFit}
 use Rattle.entries.specs.declared.Own.{Own}
-use Rattle.effects.specs.Decisions.{found}
+use Rattle.decisions.specs.Decisions.{found}
 use Rattle.conduct.proofs.Valid.{both}
 use Rattle.ledger.specs.Events.{Event, stationOf}
 use Rattle.ledger.specs.Ledger.{holds}

@@ -26,12 +26,12 @@ use Rattle.integrity.specs.Integrity.{installedKey, genuine, micRight}
 use Rattle.station.specs.declared.Activation.{Activation}
 use Rattle.station.specs.declared.Activation.the-variants.{Initial, SerialNumber, Ranging, Operation, Intermittent, EmergencyStop}
 use Rattle.station.specs.declared.Station.{Station}
-use Rattle.station.specs.declared.held.Allocs.{Allocs}
-use Rattle.station.specs.declared.held.Queue.{Queue}
-use Rattle.station.specs.declared.held.Completion.the-variants.{Ok, ParameterError, ProcessingError}
-use Rattle.station.specs.Limits.{addedAllocs, mostOwed}
+use Rattle.link.specs.declared.Allocs.{Allocs}
+use Rattle.link.specs.declared.Queue.{Queue}
+use Rattle.link.specs.declared.Completion.the-variants.{Ok, ParameterError, ProcessingError}
+use Rattle.link.specs.Limits.{addedAllocs, mostOwed}
 use Rattle.station.specs.States.{holdsIdentity, stateNumber, o23, o4, o5, o7}
-use Rattle.station.specs.Held.{allocPlace, heldAllocs}
+use Rattle.link.specs.Link.{allocPlace, heldAllocs}
 use Rattle.effects.specs.declared.Change.{Change}
 use Rattle.effects.specs.declared.Change.the-variants.{Keep, Identify, Range, Delay, AddAlloc, RemoveAlloc, Enter}
 use Rattle.effects.specs.declared.Debt.{Debt}
@@ -41,11 +41,11 @@ use Rattle.effects.specs.declared.ranging.Target.{Target}
 use Rattle.effects.specs.declared.ranging.Target.the-variants.{To, Outside}
 use Rattle.effects.specs.Effects.{ignored, does, answers}
 use Rattle.effects.specs.Ranging.{absolute, moved, answered, unanswered, rangingTime}
-use Rattle.effects.specs.Decisions as decided
-use Rattle.effects.specs.Decisions.{found, assignOnuId, allocChange, assignAllocId, requestRegistration, deactivate, switchOff, switchOn, disable, unknownType, isBroadcast, isOurs, effectOf, room, fitting}
+use Rattle.decisions.specs.Decisions as decided
+use Rattle.decisions.specs.Decisions.{found, assignOnuId, allocChange, assignAllocId, requestRegistration, deactivate, switchOff, switchOn, disable, unknownType, isBroadcast, isOurs, effectOf, room, fitting}
 use Rattle.effects.specs.Changes.{identify, range, setDelay, applyChange, applyDebt, applied}
-use Rattle.effects.specs.Acts.{act}
-use Rattle.effects.proofs.Acting.{act-forged}
+use Rattle.decisions.specs.Acts.{act}
+use Rattle.decisions.proofs.Acting.{act-forged}
 use Rattle.activation.specs.Receiving.{acting, receive}
 use Rattle.conduct.proofs.Valid.{both}
 use Rattle.ledger.specs.Entries.{Entry, gave, tookBack, tookAllBack, neither}

@@ -12,15 +12,15 @@ use lib.Seq.{take-suc-set}
 use borrow.Author.Tests.{eqb-true, eqb-false, ne-eqb, lt-leb, leb-true}
 use Rattle.ids.specs.declared.AllocId.{AllocId}
 use Rattle.ids.specs.Ids.{sameAlloc, assignableAlloc}
-use Rattle.station.specs.declared.held.Allocs.{Allocs}
-use Rattle.station.specs.declared.held.Place.{Place}
-use Rattle.station.specs.declared.held.Place.the-variants.{At, Nowhere}
-use Rattle.station.specs.Limits.{addedAllocs}
-use Rattle.station.specs.Lists.{placeFrom, some}
-use Rattle.station.specs.Held.{noAlloc, heldAllocs, allocPlace, addAlloc, removeAlloc, removeAt}
-use Rattle.station.proofs.Places.{place-held}
+use Rattle.link.specs.declared.Allocs.{Allocs}
+use Rattle.ids.specs.declared.Place.{Place}
+use Rattle.ids.specs.declared.Place.the-variants.{At, Nowhere}
+use Rattle.link.specs.Limits.{addedAllocs}
+use Rattle.ids.specs.Places.{placeFrom, some}
+use Rattle.link.specs.Link.{noAlloc, heldAllocs, allocPlace, addAlloc, removeAlloc, removeAt}
+use Rattle.ids.proofs.Places.{place-held}
 use Rattle.ranges.specs.Ranges.{proper, allocsFit}
-use Rattle.effects.specs.Decisions.{found}
+use Rattle.decisions.specs.Decisions.{found}
 use Rattle.conduct.proofs.Valid.{both}
 use Rattle.conduct.proofs.Lists.{not-so, found-some, without, closed-up}
 

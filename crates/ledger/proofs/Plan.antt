@@ -14,7 +14,7 @@ use Rattle.station.specs.declared.Activation.the-variants.{Initial, SerialNumbe
 use Rattle.station.specs.declared.Station.{Station}
 use Rattle.station.specs.States.{holdsIdentity}
 use Rattle.station.specs.Station.{powerOn}
-use Rattle.station.specs.Held.{noAllocs}
+use Rattle.link.specs.Link.{noAllocs}
 use Rattle.entries.specs.declared.Own.{Own}
 use Rattle.entries.specs.Limits.{lastStart}
 use Rattle.entries.specs.Standings.{continues, held, discovery, ranging, oursIn, ours, silent}

@@ -9,9 +9,9 @@ use Rattle.ids.specs.declared.PortId.{PortId}
 use Rattle.station.specs.declared.Activation.{Activation}
 use Rattle.station.specs.declared.Activation.the-variants.{Initial, SerialNumber, Ranging, Operation, Intermittent, EmergencyStop}
 use Rattle.station.specs.declared.Station.{Station}
-use Rattle.station.specs.declared.slots.Ports.{Ports}
-use Rattle.station.specs.Held.{withKey, installed}
-use Rattle.station.specs.Slots.{addPort, removePort}
+use Rattle.ports.specs.declared.Ports.{Ports}
+use Rattle.link.specs.Link.{withKey, installed}
+use Rattle.ports.specs.Ports.{addPort, removePort}
 use Rattle.station.specs.Station.{withLink, withPorts, withCarried}
 use Rattle.activation.specs.Replying.{afterIn, afterReply}
 use Rattle.host.specs.Host.{done, answerToAdd, answerToRemove, answerToKey, afterAdd, afterRemove, afterKey}

@@ -12,12 +12,13 @@ use Rattle.ids.specs.declared.AllocId.{AllocId}
 use Rattle.ids.specs.Ids.{assignableOnu, assignableAlloc, broadcastOnu}
 use Rattle.station.specs.declared.Activation.{Activation}
 use Rattle.station.specs.declared.Activation.the-variants.{Initial, SerialNumber, Ranging, Operation, Intermittent, EmergencyStop}
-use Rattle.station.specs.Limits.{addedAllocs, to1}
+use Rattle.link.specs.Limits.{addedAllocs}
+use Rattle.station.specs.Limits.{to1}
 use Rattle.station.specs.States.{holdsIdentity}
-use Rattle.station.specs.Held.{noAllocs, heldAllocs, allocPlace, addAlloc, removeAlloc}
+use Rattle.link.specs.Link.{noAllocs, heldAllocs, allocPlace, addAlloc, removeAlloc}
 use Rattle.ranges.specs.Ranges.{identityFits, allocsFit}
 use Rattle.entries.specs.declared.Own.{Own}
-use Rattle.effects.specs.Decisions.{found}
+use Rattle.decisions.specs.Decisions.{found}
 use Rattle.conduct.proofs.Valid.{both}
 use Rattle.conduct.proofs.InRangeTimes.{identity-moves}
 use Rattle.conduct.proofs.InRangeLists.{added, removed}

@@ -8,9 +8,9 @@ use mathlib.Core.List.{List, [], _∷_, _++_}
 use lib.Dec.{eqb}
 use Rattle.ids.specs.Ids.{sameAlloc}
 use Rattle.station.specs.declared.Station.{Station}
-use Rattle.station.specs.Lists.{some}
+use Rattle.ids.specs.Places.{some}
 use Rattle.station.specs.States.{holdsIdentity, o4}
-use Rattle.station.specs.Held.{heldAllocs}
+use Rattle.link.specs.Link.{heldAllocs}
 use Rattle.ledger.specs.Events.{Event, considered, ended, unread, lost, replied, walked, carriedOver, portAdded, portRemoved, keyGiven, stationOf}
 use Rattle.ledger.specs.Entries.{Entry, gave, tookAllBack, neither, takesBack}
 use Rattle.ledger.specs.Messages.{inState, byMessage}

@@ -18,11 +18,11 @@ use Rattle.ploam.specs.declared.Content.the-variants.{Profile, AssignOnuId, Ran
 use Rattle.ploam.specs.Reading.{serialAt, contentOf, messageOf}
 use Rattle.integrity.specs.Integrity.{installedKey, genuine}
 use Rattle.station.specs.declared.Station.{Station}
-use Rattle.station.specs.declared.held.Allocs.{Allocs}
-use Rattle.station.specs.Limits.{addedAllocs, mostOwed}
+use Rattle.link.specs.declared.Allocs.{Allocs}
+use Rattle.link.specs.Limits.{addedAllocs, mostOwed}
 use Rattle.station.specs.States.{holdsIdentity, stateNumber, o23, o5}
-use Rattle.station.specs.Held.{allocPlace}
-use Rattle.effects.specs.Decisions.{sameSerial, found, isBroadcast, isOurs}
+use Rattle.link.specs.Link.{allocPlace}
+use Rattle.decisions.specs.Decisions.{sameSerial, found, isBroadcast, isOurs}
 use Rattle.ledger.specs.Entries.{Entry, gave, tookBack, tookAllBack, neither}
 
 abbrev pub inState : ℕ → Station → Bool

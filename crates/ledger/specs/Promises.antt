@@ -13,9 +13,9 @@ use Rattle.station.specs.declared.Activation.the-variants.{Ranging, Operation, 
 use Rattle.station.specs.declared.Station.{Station}
 use Rattle.station.specs.Limits.{to1, to2}
 use Rattle.station.specs.States.{o4}
-use Rattle.station.specs.Held.{heldAllocs, allocPlace}
+use Rattle.link.specs.Link.{heldAllocs, allocPlace}
 use Rattle.ranges.specs.Ranges.{proper}
-use Rattle.effects.specs.Decisions.{found}
+use Rattle.decisions.specs.Decisions.{found}
 use Rattle.ledger.specs.Events.{Event, considered, ended, unread, lost, stationOf}
 use Rattle.ledger.specs.Entries.{gave, neither, takesBack}
 use Rattle.ledger.specs.Messages.{byMessage}

@@ -10,7 +10,7 @@ use lib.ListN.{length, take, drop, length-append, length-drop, take-append-drop}
 use lib.Seq.{length-take-le}
 use Rattle.ids.specs.declared.PortId.{PortId}
 use Rattle.framing.proofs.Numbers.{octets-length}
-use Rattle.station.specs.Limits.{slots, slotBytes}
+use Rattle.ports.specs.Limits.{slots, slotBytes}
 use Rattle.fragments.specs.declared.Effect.{Effect}
 use Rattle.fragments.specs.declared.Effect.the-variants.{Nothing, Discard, Deliver, Append}
 use Rattle.fragments.specs.Fragments.{effectOf}

@@ -9,8 +9,8 @@ use borrow.Author.Tests.{le-leb, lt-leb}
 use lib.Dec.{leb}
 use lib.ListN.{length, getD}
 use Rattle.ids.specs.declared.PortId.{PortId}
-use Rattle.station.specs.declared.slots.Ports.{Ports}
-use Rattle.station.specs.Limits.{slots, addedPorts, slotBytes}
+use Rattle.ports.specs.declared.Ports.{Ports}
+use Rattle.ports.specs.Limits.{slots, addedPorts, slotBytes}
 use Rattle.payload.specs.declared.walk.Received.{Received}
 use Rattle.payload.specs.declared.walk.Delineation.the-variants.{Unfit}
 use Rattle.payload.specs.Memory.{Receiver}

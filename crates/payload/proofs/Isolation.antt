@@ -13,9 +13,9 @@ use Rattle.framing.specs.declared.xgem.XgemHeader.{XgemHeader}
 use Rattle.framing.specs.Octets.{value}
 use Rattle.framing.specs.Layouts.{xgemOf, payloadSize}
 use Rattle.framing.specs.Reads.{Found, taken as taken-fields, short, readXgem}
-use Rattle.station.specs.declared.held.Place.{Place}
-use Rattle.station.specs.declared.held.Place.the-variants.{Nowhere}
-use Rattle.station.specs.declared.slots.Ports.{Ports}
+use Rattle.ids.specs.declared.Place.{Place}
+use Rattle.ids.specs.declared.Place.the-variants.{Nowhere}
+use Rattle.ports.specs.declared.Ports.{Ports}
 use Rattle.fragments.specs.declared.Effect.{Effect}
 use Rattle.fragments.specs.declared.Effect.the-variants.{Nothing}
 use Rattle.fragments.specs.Fragments.{slotIn, slotOf, atPlace, effectOf}

@@ -11,7 +11,7 @@ use lib.Dec.{leb}
 use lib.ListN.{length, getD, set, drop, drop-of-length-le}
 use lib.Seq.{drop-cons}
 use Rattle.bch.proofs.Both.{and-left, and-right}
-use Rattle.station.specs.Limits.{slotBytes}
+use Rattle.ports.specs.Limits.{slotBytes}
 use Rattle.payload.specs.Walk.{allWithin}
 use Rattle.payload.specs.Bounds.{total}
 

@@ -22,9 +22,9 @@ use Rattle.framing.proofs.Numbers.{octets-length, value-octets}
 use Rattle.framing.proofs.Layouts.{xgem-true}
 use Rattle.framing.proofs.Frames.{frame-length}
 use Rattle.framing.proofs.RoundTrips.{frame-mended, octets-bytes}
-use Rattle.station.specs.declared.held.Place.{Place}
-use Rattle.station.specs.declared.held.Place.the-variants.{At}
-use Rattle.station.specs.Limits.{slots, slotBytes}
+use Rattle.ids.specs.declared.Place.{Place}
+use Rattle.ids.specs.declared.Place.the-variants.{At}
+use Rattle.ports.specs.Limits.{slots, slotBytes}
 use Rattle.fragments.specs.declared.Effect.{Effect}
 use Rattle.fragments.specs.declared.Effect.the-variants.{Nothing, Discard, Deliver, Append}
 use Rattle.fragments.specs.Fragments.{slotOf, atSlot, atPlace, effectOf}

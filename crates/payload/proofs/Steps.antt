@@ -10,8 +10,8 @@ use lib.Seq.{length-take-le}
 use Rattle.ids.specs.declared.PortId.{PortId}
 use Rattle.framing.specs.Octets.{octets}
 use Rattle.framing.proofs.Numbers.{octets-length}
-use Rattle.station.specs.declared.slots.Ports.{Ports}
-use Rattle.station.specs.Limits.{slots, slotBytes}
+use Rattle.ports.specs.declared.Ports.{Ports}
+use Rattle.ports.specs.Limits.{slots, slotBytes}
 use Rattle.fragments.specs.declared.Effect.{Effect}
 use Rattle.fragments.specs.declared.Effect.the-variants.{Nothing, Discard, Deliver, Append}
 use Rattle.fragments.specs.Fragments.{effectOf}

@@ -8,7 +8,7 @@ use lib.ListN.{length, take, drop}
 use Rattle.ids.specs.declared.PortId.{PortId}
 use Rattle.framing.specs.declared.xgem.XgemHeader.{XgemHeader}
 use Rattle.framing.specs.Layouts.{payloadSize}
-use Rattle.station.specs.declared.held.Place.the-variants.{Nowhere}
+use Rattle.ids.specs.declared.Place.the-variants.{Nowhere}
 use Rattle.fragments.specs.Fragments.{slotIn}
 use Rattle.payload.specs.declared.frames.Next.the-variants.{Frame}
 use Rattle.payload.specs.Frames.{nextOf}

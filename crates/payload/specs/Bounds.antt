@@ -4,7 +4,7 @@ use mathlib.Core.Path.{_≡_}
 use mathlib.Core.List.{List, [], _∷_}
 use Prim.Native.Nat.{ℕ, _+_, _≤_}
 use lib.ListN.{length, getD}
-use Rattle.station.specs.Limits.{slots, addedPorts, slotBytes}
+use Rattle.ports.specs.Limits.{slots, addedPorts, slotBytes}
 use Rattle.payload.specs.Memory.{Receiver}
 use Rattle.payload.specs.Walk.{memoryBytes}
 

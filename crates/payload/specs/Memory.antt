@@ -6,9 +6,9 @@ use Prim.Native.Nat.{ℕ, _+_, _*_}
 use lib.ListN.{length, take, drop, set}
 use Rattle.ids.specs.declared.PortId.{PortId}
 use Rattle.framing.specs.Octets.{octets}
-use Rattle.station.specs.Limits.{slotBytes}
-use Rattle.station.specs.Slots.{dropOne}
-use Rattle.station.specs.declared.slots.Ports.{Ports}
+use Rattle.ports.specs.Limits.{slotBytes}
+use Rattle.ports.specs.Ports.{dropOne}
+use Rattle.ports.specs.declared.Ports.{Ports}
 use Rattle.fragments.specs.declared.Effect.{Effect}
 use Rattle.fragments.specs.declared.Effect.the-variants.{Nothing, Discard, Deliver, Append}
 use Rattle.fragments.specs.Fragments.{effectOf}

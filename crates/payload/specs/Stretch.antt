@@ -6,7 +6,7 @@ use Prim.Native.Nat.{ℕ, _+_, _-_}
 use lib.Dec.{eqb, leb}
 use lib.ListN.{length, getD, take, drop}
 use Rattle.ids.specs.declared.PortId.{PortId}
-use Rattle.station.specs.declared.slots.Ports.{Ports}
+use Rattle.ports.specs.declared.Ports.{Ports}
 use Rattle.fragments.specs.declared.Effect.{Effect}
 use Rattle.fragments.specs.declared.Effect.the-variants.{Nothing, Discard, Deliver, Append}
 use Rattle.fragments.specs.Fragments.{effectOf}

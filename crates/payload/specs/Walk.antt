@@ -6,9 +6,9 @@ use Prim.Native.Nat.{ℕ, _+_, _*_}
 use lib.Dec.{leb}
 use lib.ListN.{length}
 use Rattle.ids.specs.declared.PortId.{PortId}
-use Rattle.station.specs.Limits.{slots, slotBytes}
-use Rattle.station.specs.Slots.{dropAll}
-use Rattle.station.specs.declared.slots.Ports.{Ports}
+use Rattle.ports.specs.Limits.{slots, slotBytes}
+use Rattle.ports.specs.Ports.{dropAll}
+use Rattle.ports.specs.declared.Ports.{Ports}
 use Rattle.payload.specs.declared.walk.Delineation.{Delineation}
 use Rattle.payload.specs.declared.walk.Delineation.the-variants.{Kept, Lost, Unfit}
 use Rattle.payload.specs.Frames.{Xgem, Parsed, parse}

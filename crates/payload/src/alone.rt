@@ -12,7 +12,7 @@ use fragments::Effect;
 use framing::xgem;
 use framing::xgem::XgemRead;
 use ids::PortId;
-use station::slots::Ports;
+use ports::Ports;
 
 // So many bytes from a place of the payload.
 pub struct Extent {

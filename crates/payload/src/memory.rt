@@ -7,7 +7,7 @@ ghost use Rattle.payload.specs.Memory.{put, delivery, taken};
 ghost use Rattle.payload.specs.Bounds.{Ready};
 use fragments::Effect;
 use ids::PortId;
-use station::limits::SLOT_BYTES;
+use ports::SLOT_BYTES;
 
 // All of a slice into a place of another: its end from there is lent on.
 fn lay_at(target: &mut [u8], at: usize, s: &[u8])

@@ -3,7 +3,7 @@ ghost use mathlib.Core.Path.{_≡_};
 ghost use Prim.Native.Nat.{_+_, _≤_};
 ghost use lib.ListN.{length};
 ghost use Rattle.bch.specs.Tables.{Syndromes, Flips};
-ghost use Rattle.station.specs.Slots.{dropAll};
+ghost use Rattle.ports.specs.Ports.{dropAll};
 ghost use Rattle.payload.specs.Bounds.{Ready};
 ghost use Rattle.payload.specs.Walk.{walkOf, allWithin, receiveOf};
 use super::frames;
@@ -11,8 +11,8 @@ use super::frames::Next;
 use super::memory;
 use framing::xgem;
 use ids::PortId;
-use station::limits::SLOT_BYTES;
-use station::slots::Ports;
+use ports::Ports;
+use ports::SLOT_BYTES;
 
 // The memory of 17 slots.
 pub const MEMORY_BYTES: usize = 34816;

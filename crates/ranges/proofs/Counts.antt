@@ -8,7 +8,7 @@ use native.Mathlib.Omega.{arith}
 use lib.ListN.{length}
 use lib.Dec.{eqb}
 use borrow.Author.Tests.{eqb-true, eqb-false, eq-eqb, ne-eqb}
-use Rattle.station.specs.Lists.{some}
+use Rattle.ids.specs.Places.{some}
 use Rattle.ranges.specs.Ranges.{proper, isUnfit, times, equalPairs, numbersFit}
 
 abbrev any : ℕ → Bool

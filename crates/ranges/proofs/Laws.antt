@@ -10,10 +10,10 @@ use lib.ListN.{length, getD, drop, set, drop-of-length-le}
 use lib.Seq.{sets, sets-eq, drop-cons}
 use lib.Dec.{eqb, leb}
 use borrow.Author.Tests.{le-leb, eqb-true}
-use Rattle.station.specs.Lists.{some}
+use Rattle.ids.specs.Places.{some}
 use Rattle.ids.specs.declared.PortId.{PortId}
 use Rattle.ids.specs.Ids.{samePort}
-use Rattle.station.specs.Slots.{noPort}
+use Rattle.ports.specs.Ports.{noPort}
 use Rattle.ranges.specs.Ranges.{every, placeNumber, numbersFrom, times, equalPairs, partialFits, slotFits, partialsFit, lengthFits, emptyFits}
 use Rattle.ranges.proofs.Places.{numbers-length}
 

@@ -12,8 +12,8 @@ use borrow.Author.Tests.{ltb-true, ltb-false, leb-true, ne-eqb}
 use Rattle.ids.specs.declared.AllocId.{AllocId}
 use Rattle.ids.specs.declared.PortId.{PortId}
 use Rattle.ids.specs.Ids.{within, assignableAlloc, assignablePort, sameAlloc, samePort}
-use Rattle.station.specs.Lists.{some}
-use Rattle.station.specs.Slots.{noPort}
+use Rattle.ids.specs.Places.{some}
+use Rattle.ports.specs.Ports.{noPort}
 use Rattle.ranges.specs.Ranges.{proper, held, unfit, isUnfit, placeNumber, numbersFrom, numbersFit, allocNumbers, portNumbers, portsFit}
 use Rattle.ranges.proofs.Counts.{fit, numbers-fit}
 

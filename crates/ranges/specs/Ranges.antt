@@ -12,13 +12,15 @@ use Rattle.ids.specs.Ids.{within, assignableOnu, assignableAlloc, assignablePor
 use Rattle.station.specs.declared.Activation.{Activation}
 use Rattle.station.specs.declared.Activation.the-variants.{Initial, SerialNumber, Ranging, Operation, Intermittent, EmergencyStop}
 use Rattle.station.specs.declared.Station.{Station}
-use Rattle.station.specs.declared.held.Allocs.{Allocs}
-use Rattle.station.specs.declared.slots.Ports.{Ports}
-use Rattle.station.specs.Limits.{addedAllocs, addedPorts, mostOwed, slots, slotBytes, upstreamWords, to1, to2}
-use Rattle.station.specs.Lists.{some}
+use Rattle.link.specs.declared.Allocs.{Allocs}
+use Rattle.ports.specs.declared.Ports.{Ports}
+use Rattle.link.specs.Limits.{addedAllocs, mostOwed}
+use Rattle.ports.specs.Limits.{addedPorts, slots, slotBytes}
+use Rattle.station.specs.Limits.{upstreamWords, to1, to2}
+use Rattle.ids.specs.Places.{some}
 use Rattle.station.specs.States.{holdsIdentity}
-use Rattle.station.specs.Held.{heldAllocs}
-use Rattle.station.specs.Slots.{noPort}
+use Rattle.link.specs.Link.{heldAllocs}
+use Rattle.ports.specs.Ports.{noPort}
 
 -- "ONU-ID at most 1,022 in O4, O5, O6, else 1,023"
 unfoldable pub identityFits : Activation → OnuId → Bool

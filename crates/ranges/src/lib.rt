@@ -2,18 +2,18 @@
 ghost use mathlib.Core.Path.{_≡_};
 ghost use mathlib.Core.Bool.{Bool, false, not, cond};
 ghost use Rattle.ids.specs.Ids.{within};
-ghost use Rattle.station.specs.Limits.{addedPorts, slots};
-ghost use Rattle.station.specs.Lists.{some};
+ghost use Rattle.ports.specs.Limits.{addedPorts, slots};
+ghost use Rattle.ids.specs.Places.{some};
 ghost use Rattle.ranges.specs.Ranges.{identityFits, timerFits, allocsFit, portsFit, every, partialFits, partialsFit, inRange};
 ghost use Rattle.ranges.specs.Ranges.{placeNumber, allocNumbers, portNumbers, isUnfit, times, equalPairs, numbersFit};
 ghost use Rattle.ranges.specs.Ranges.{lengthFits, emptyFits};
 use ids::AllocId;
 use ids::OnuId;
 use ids::PortId;
+use link::Allocs;
+use ports::SLOT_BYTES;
 use station::Activation;
 use station::Station;
-use station::held::Allocs;
-use station::limits::SLOT_BYTES;
 use station::limits::TO1;
 use station::limits::TO2;
 
@@ -77,7 +77,7 @@ fn alloc_numbers(ids: [AllocId; 16], n: usize) -> [u16; 16]
 {
     let mut numbers = [0u16; 16];
     let mut i: usize = 0;
-    while i < station::held::ADDED_ALLOCS {
+    while i < link::ADDED_ALLOCS {
         let id = ids[i];
         numbers[i] = place_number(i < n, id.is_assignable(), id.0, i as u16);
         i += 1;
@@ -91,7 +91,7 @@ fn port_numbers(ids: [PortId; 16]) -> [u16; 16]
     let none = PortId(0);
     let mut numbers = [0u16; 16];
     let mut i: usize = 0;
-    while i < station::slots::ADDED_PORTS {
+    while i < ports::ADDED_PORTS {
         let id = ids[i];
         numbers[i] = place_number(!id.is(none), id.is_assignable(), id.0, i as u16);
         i += 1;
@@ -154,7 +154,7 @@ fn allocs_fit(allocs: Allocs) -> bool
 {
     let ids = allocs.ids;
     let n = allocs.count;
-    if station::held::ADDED_ALLOCS < n {
+    if link::ADDED_ALLOCS < n {
         return false;
     }
     numbers_fit(alloc_numbers(ids, n))
@@ -181,7 +181,7 @@ fn lengths_fit(lengths: [u16; 17], waiting: [bool; 17]) -> bool
 {
     let mut all = true;
     let mut i: usize = 0;
-    while i < station::slots::SLOTS {
+    while i < ports::SLOTS {
         all = all & length_fits(lengths[i], waiting[i]);
         i += 1;
     }
@@ -195,7 +195,7 @@ fn empties_fit(ids: [PortId; 16], lengths: [u16; 17]) -> bool
     let none = PortId(0);
     let mut all = true;
     let mut i: usize = 0;
-    while i < station::slots::ADDED_PORTS {
+    while i < ports::ADDED_PORTS {
         let id = ids[i];
         all = all & (!id.is(none) | (lengths[i + 1] == 0));
         i += 1;
@@ -242,5 +242,5 @@ pub fn in_range(s: Station) -> bool
     if !timer_fits(a) {
         return false;
     }
-    owed.count <= station::held::MOST_OWED
+    owed.count <= link::MOST_OWED
 }

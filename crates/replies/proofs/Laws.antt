@@ -20,7 +20,7 @@ use Rattle.upstream.proofs.RoundTrip.{written-by-mix-table}
 use Rattle.station.specs.declared.Activation.{Activation}
 use Rattle.station.specs.declared.Activation.the-variants.{Initial, SerialNumber, Ranging, Operation, Intermittent, EmergencyStop}
 use Rattle.station.specs.declared.Station.{Station}
-use Rattle.station.specs.declared.held.Key.{Key}
+use Rattle.link.specs.declared.Key.{Key}
 use Rattle.activation.specs.Replying.{afterIn, afterReply}
 use Rattle.replies.specs.Replies.{keyOf, inPlace, wrote, repliesFrom, Keyed, Left}
 

@@ -12,7 +12,7 @@ use Rattle.ploam.specs.Layout.{messageOctets}
 use Rattle.integrity.specs.Integrity.{defaultKey, installedKey}
 use Rattle.upstream.specs.Writing.{written}
 use Rattle.station.specs.declared.Station.{Station}
-use Rattle.station.specs.declared.held.Key.{Key}
+use Rattle.link.specs.declared.Key.{Key}
 use Rattle.activation.specs.Replying.{replyOf, afterReply}
 use Rattle.activation.specs.declared.replying.Reply.{Reply}
 use Rattle.activation.specs.declared.replying.Reply.the-variants.{Silent, Says}

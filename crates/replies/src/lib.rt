@@ -7,7 +7,7 @@ ghost use Rattle.ploam.specs.Layout.{messageOctets};
 ghost use lib.ListN.{length};
 ghost use Rattle.aes.specs.MixTable.{mixTable};
 ghost use Rattle.cmac.specs.ByTable.{Ready};
-ghost use Rattle.station.specs.Limits.{keyOctets};
+ghost use Rattle.link.specs.Limits.{keyOctets};
 ghost use Rattle.replies.specs.Replies.{Keyed, wrote, Left, repliesFrom, Replied};
 use activation::replying::Reply;
 use cmac::Prepared;

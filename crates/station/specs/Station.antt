@@ -4,11 +4,11 @@ use Prim.Native.Nat.{ℕ}
 use mathlib.Core.List.{List}
 use Rattle.station.specs.declared.Activation.{Activation}
 use Rattle.station.specs.declared.Activation.the-variants.{Initial}
-use Rattle.station.specs.declared.held.Link.{Link}
-use Rattle.station.specs.declared.slots.Ports.{Ports}
+use Rattle.link.specs.declared.Link.{Link}
+use Rattle.ports.specs.declared.Ports.{Ports}
 use Rattle.station.specs.declared.Station.{Station}
-use Rattle.station.specs.Held.{nothing}
-use Rattle.station.specs.Slots.{noPorts, dropAll}
+use Rattle.link.specs.Link.{nothing}
+use Rattle.ports.specs.Ports.{noPorts, dropAll}
 
 -- "Power-on takes a serial number and a Registration ID and gives O1 with nothing held or carried"
 abbrev pub powerOn : List ℕ → List ℕ → Station

@@ -4,13 +4,11 @@ ghost use mathlib.Core.Path.{_≡_};
 ghost use Rattle.station.specs.States.{holdsIdentity, stateNumber};
 ghost use Rattle.station.specs.Station.{withActivation, withLink, withPorts, withCarried};
 ghost use Rattle.station.specs.Station.{powerOn, enter};
-use held::Link;
-use slots::Ports;
+use link::Link;
+use ports::Ports;
 
 pub mod answers;
-pub mod held;
 pub mod limits;
-pub mod slots;
 
 // The states of clause 12.1. Only O4 and O6 count, and only they carry a count: what is left of TO1 and of TO2.
 pub enum Activation {

@@ -1,7 +1,4 @@
-// The numbers of the paper that more than one stage needs.
-
-// The bytes of a slot: no SDU that comes in fragments is longer.
-pub const SLOT_BYTES: usize = 2048;
+// The timers' numbers of the paper, which more than one stage needs.
 
 // Frame times of TO1 (10 s) and of TO2 (100 ms).
 pub const TO1: u32 = 80000;

@@ -7,7 +7,7 @@ use Rattle.station.specs.declared.Activation.{Activation}
 use Rattle.station.specs.declared.Activation.the-variants.{Initial, SerialNumber, Ranging, Operation, Intermittent, EmergencyStop}
 use Rattle.station.specs.declared.Station.{Station}
 use Rattle.station.specs.Limits.{to2}
-use Rattle.station.specs.Slots.{dropAll}
+use Rattle.ports.specs.Ports.{dropAll}
 use Rattle.station.specs.Station.{enter, withActivation, withPorts, withCarried}
 
 -- "TO1 counts down, and at 0 goes to O2-3"

@@ -3,7 +3,7 @@
 use mathlib.Core.Path.{_∙_, sym, ap}
 use Rattle.effects.specs.Effects.{isIgnored}
 use Rattle.effects.specs.Changes.{applied}
-use Rattle.effects.proofs.Acting.{act-genuine, act-forged, act-ignored}
+use Rattle.decisions.proofs.Acting.{act-genuine, act-forged, act-ignored}
 use Rattle.activation.specs.Receiving.{receivedBy}
 use borrow.Author.Needs.{needs}
 use Rattle.activation.proofs.considered.Statement.{statement}

@@ -2,7 +2,7 @@ use mathlib.Core.Path.{_≡_, _∙_, sym}
 use borrow.Author.Tests.{not-true, not-false}
 use denote.Ref.{now}
 use lib.ListN.{length, length-map}
-use Rattle.station.specs.Limits.{slots}
+use Rattle.ports.specs.Limits.{slots}
 use Rattle.arrival.proofs.Laws.{payload-received}
 use borrow.Author.Needs.{needs}
 use Rattle.arrival.proofs.receive_payload.Statement.{statement}

@@ -7,7 +7,7 @@ use Prim.Native.Nat.{_-_, _+_}
 use lib.ListN.{length, take}
 use lib.Seq.{slice}
 use Rattle.ids.specs.Ids.{sameAlloc}
-use Rattle.station.specs.Lists.{some}
+use Rattle.ids.specs.Places.{some}
 use Rattle.entries.proofs.Lookup.{some-next, some-end}
 use borrow.Author.Needs.{needs}
 use Rattle.entries.proofs.among.Statement.{statement}

@@ -6,7 +6,7 @@ use mathlib.Core.Bool.{false}
 use Prim.Native.Nat.{ℕ, _<_}
 use native.Mathlib.Omega.{arith}
 use lib.ListN.{getD}
-use Rattle.station.specs.Limits.{slots}
+use Rattle.ports.specs.Limits.{slots}
 use Rattle.fragments.specs.Fragments.{atSlot}
 use borrow.Author.Needs.{needs}
 use Rattle.fragments.proofs.at_place.Statement.{statement}

@@ -2,7 +2,7 @@
 -- Assumes nothing.
 use Prim.Native.Nat.{_<_}
 use native.Mathlib.Omega.{arith}
-use Rattle.station.specs.Limits.{addedPorts}
+use Rattle.ports.specs.Limits.{addedPorts}
 use borrow.Author.Needs.{needs}
 use Rattle.fragments.proofs.behind.Statement.{statement}
 use Rattle.fragments.proofs.behind.Tie as tie

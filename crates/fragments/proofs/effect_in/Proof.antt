@@ -3,7 +3,7 @@
 use denote.Ref.{now}
 use mathlib.Core.Path.{ap, _∙_}
 use borrow.Author.Tests.{eq-eqb, ne-eqb}
-use Rattle.station.specs.declared.slots.Ports.{Ports}
+use Rattle.ports.specs.declared.Ports.{Ports}
 use Rattle.fragments.specs.Fragments.{atPlace}
 use Rattle.fragments.proofs.Effects.{ids-aside}
 use borrow.Author.Needs.{needs}

@@ -7,8 +7,8 @@ use lib.ListN.{length}
 use lib.Seq.{slice, take-all}
 use borrow.Author.Needs.{needs}
 use Rattle.ids.specs.Ids.{samePort}
-use Rattle.station.specs.Lists.{placeFrom}
-use Rattle.station.proofs.Places.{place-here, place-next, place-none}
+use Rattle.ids.specs.Places.{placeFrom}
+use Rattle.ids.proofs.Places.{place-here, place-next, place-none}
 use Rattle.fragments.proofs.first_place.Statement.{statement}
 use Rattle.fragments.proofs.first_place.Tie as tie
 

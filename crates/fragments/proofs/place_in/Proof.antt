@@ -4,7 +4,7 @@ use mathlib.Core.Path.{sym, ap, _∙_}
 use native.Mathlib.Omega.{arith}
 use Prim.Native.Nat.{ℕ, _-_}
 use Rattle.ids.specs.Ids.{samePort}
-use Rattle.station.specs.declared.held.Place.the-variants.{At}
+use Rattle.ids.specs.declared.Place.the-variants.{At}
 use Rattle.fragments.proofs.Marked.{marks-none, marks-one}
 use borrow.Author.Needs.{needs}
 use Rattle.fragments.proofs.place_in.Statement.{statement}

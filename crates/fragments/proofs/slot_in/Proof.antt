@@ -3,7 +3,7 @@
 use mathlib.Core.Path.{_≡_, sym, ap, _∙_}
 use mathlib.Core.List.{[]}
 use lib.ListN.{length}
-use Rattle.station.specs.Limits.{addedPorts}
+use Rattle.ports.specs.Limits.{addedPorts}
 use Rattle.fragments.specs.Fragments.{behind}
 use Rattle.fragments.proofs.Effects.{added-below}
 use borrow.Author.Needs.{needs}

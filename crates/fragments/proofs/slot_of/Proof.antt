@@ -2,7 +2,7 @@
 -- Assumes nothing.
 use mathlib.Core.Path.{_≡_, sym, ap, _∙_}
 use lib.ListN.{length, length-map}
-use Rattle.station.specs.Limits.{addedPorts}
+use Rattle.ports.specs.Limits.{addedPorts}
 use Rattle.fragments.specs.Fragments.{behind}
 use Rattle.fragments.proofs.Effects.{added-below}
 use borrow.Author.Needs.{needs}

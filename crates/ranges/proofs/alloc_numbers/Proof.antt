@@ -6,7 +6,7 @@ use borrow.Author.Needs.{needs}
 use Prim.Native.Nat.{_-_, _≤_}
 use lib.ListN.{length, getD, drop, length-set}
 use mathlib.Core.Bool.{Bool}
-use Rattle.station.specs.Held.{noAlloc}
+use Rattle.link.specs.Link.{noAlloc}
 use lib.Seq.{sets}
 use lib.Dec.{ltb}
 use Rattle.ids.specs.declared.AllocId.{AllocId}

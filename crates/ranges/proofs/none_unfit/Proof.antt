@@ -6,7 +6,7 @@ use native.Mathlib.Omega.{arith}
 use borrow.Author.Needs.{needs}
 use Prim.Native.Nat.{_-_}
 use lib.ListN.{length, drop}
-use Rattle.station.specs.Lists.{some}
+use Rattle.ids.specs.Places.{some}
 use Rattle.ranges.specs.Ranges.{isUnfit}
 use Rattle.ranges.proofs.Laws.{none-turn, none-end}
 use Rattle.ranges.proofs.none_unfit.Statement.{statement}

@@ -6,7 +6,7 @@ use borrow.Author.Needs.{needs}
 use Prim.Native.Nat.{_-_, _≤_}
 use lib.ListN.{length, getD, drop, length-set}
 use mathlib.Core.Bool.{Bool, not}
-use Rattle.station.specs.Slots.{noPort}
+use Rattle.ports.specs.Ports.{noPort}
 use lib.Seq.{sets}
 use Rattle.ids.specs.declared.PortId.{PortId}
 use Rattle.ids.specs.Ids.{assignablePort}

@@ -1,9 +1,9 @@
 use mathlib.Core.Path.{_≡_, ap, _∙_}
 use lib.ListN.{replicate}
 use Rattle.station.specs.declared.Station.{Station}
-use Rattle.station.specs.declared.held.Link.{Link}
+use Rattle.link.specs.declared.Link.{Link}
 use Rattle.station.specs.declared.Activation.the-variants.{Operation}
-use Rattle.station.specs.Held.{installed, withOnu, withKey}
+use Rattle.link.specs.Link.{installed, withOnu, withKey}
 use Rattle.station.specs.Station.{powerOn, withLink, withActivation}
 use borrow.Author.Needs.{needs}
 use Rattle.bench_exports.proofs.messages.bench_station.Statement.{statement}
@@ -13,9 +13,9 @@ use Rattle.bench_exports.proofs.messages.bench_station.Lts as lts
 use Rattle.station.proofs.Station.power_on.Reads as power-on-reads
 use Rattle.station.proofs.Station.with_activation.Reads as with-activation-reads
 use Rattle.station.proofs.Station.with_link.Reads as with-link-reads
-use Rattle.station.proofs.held.Link.nothing.Reads as nothing-reads
-use Rattle.station.proofs.held.Link.with_key.Reads as with-key-reads
-use Rattle.station.proofs.held.Link.with_onu.Reads as with-onu-reads
+use Rattle.link.proofs.Link.nothing.Reads as nothing-reads
+use Rattle.link.proofs.Link.with_key.Reads as with-key-reads
+use Rattle.link.proofs.Link.with_onu.Reads as with-onu-reads
 
 linked : {a b : Station} → {k l : Link} → a ≡ b → k ≡ l → withLink a k ≡ withLink b l
 linked {a} {b} {k} {l} p q = ap (λ (s : Station). withLink s k) p ∙ ap (λ (m : Link). withLink b m) q

@@ -2,7 +2,7 @@
 -- Assumes nothing.
 use denote.Ref.{now}
 use mathlib.Core.Path.{ap, _∙_}
-use Rattle.station.specs.declared.slots.Ports.{Ports}
+use Rattle.ports.specs.declared.Ports.{Ports}
 use Rattle.payload.specs.Walk.{Walked, receiveOf}
 use Rattle.bench_exports.specs.Ports.{ownPort}
 use borrow.Author.Needs.{needs}

@@ -1,6 +1,6 @@
 -- `layout::reading::answers_in` meets its contract.
 -- Assumes nothing.
-use Rattle.station.specs.Held.{blank}
+use Rattle.link.specs.Link.{blank}
 use mathlib.Core.Path.{_≡_, refl, sym, ap, _∙_}
 use native.Mathlib.Omega.{arith}
 use borrow.Author.Needs.{needs}

@@ -4,7 +4,7 @@ use mathlib.Core.Path.{_≡_, refl, sym, ap, _∙_}
 use Prim.Native.Nat.{ℕ, _+_, _≤_, _<_}
 use native.Mathlib.Omega.{arith}
 use lib.ListN.{getD}
-use Rattle.station.specs.Limits.{slots, slotBytes}
+use Rattle.ports.specs.Limits.{slots, slotBytes}
 use Rattle.fragments.specs.Within.{Within}
 use Rattle.payload.specs.Memory.{after}
 use borrow.Author.Needs.{needs}

@@ -8,7 +8,7 @@ use native.Mathlib.Omega.{arith}
 use borrow.Author.Needs.{needs}
 use lib.ListN.{length, take, drop, length-map}
 use Rattle.framing.specs.Layouts.{payloadSize}
-use Rattle.station.specs.Limits.{addedPorts}
+use Rattle.ports.specs.Limits.{addedPorts}
 use Rattle.fragments.proofs.Effects.{effect-within}
 use Rattle.payload.specs.declared.frames.Next.the-variants.{Frame}
 use Rattle.payload.specs.Frames.{nextOf}

@@ -11,8 +11,8 @@ use borrow.Rule.Slice.PartMut.{putMid}
 use lib.ListN.{length, getD, set, take, drop, length-take, length-drop}
 use lib.Seq.{take-length, set-getD}
 use Rattle.ids.specs.declared.PortId.{PortId}
-use Rattle.station.specs.declared.slots.Ports.{Ports}
-use Rattle.station.specs.Limits.{slots, slotBytes}
+use Rattle.ports.specs.declared.Ports.{Ports}
+use Rattle.ports.specs.Limits.{slots, slotBytes}
 use Rattle.fragments.specs.Within.{Within}
 use Rattle.fragments.proofs.Effects.{effect-within, effect-clear}
 use Rattle.payload.specs.Memory.{Receiver, after, put, delivery, partial, memoryAfter, deliveriesAfter, bytesAfter, taken}

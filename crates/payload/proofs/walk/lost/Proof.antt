@@ -1,7 +1,7 @@
 -- `payload::walk::lost` meets its contract.
 -- Assumes nothing.
 use mathlib.Core.Path.{ap}
-use Rattle.station.specs.declared.slots.Ports.{Ports}
+use Rattle.ports.specs.declared.Ports.{Ports}
 use Rattle.payload.specs.declared.walk.Received.{Received}
 use Rattle.payload.specs.declared.walk.Delineation.the-variants.{Lost}
 use borrow.Author.Needs.{needs}

@@ -5,7 +5,7 @@ use mathlib.Core.Path.{_≡_, sym, _∙_}
 use native.Mathlib.Omega.{arith}
 use borrow.Author.Tests.{not-true, not-false}
 use lib.ListN.{length, length-map}
-use Rattle.station.specs.Limits.{addedPorts, slots}
+use Rattle.ports.specs.Limits.{addedPorts, slots}
 use Rattle.payload.proofs.Fit.{refused, long-partial, short-memory, short-deliveries, accepted, ready}
 use borrow.Author.Needs.{needs}
 use Rattle.payload.proofs.walk.receive_by.Statement.{statement}

@@ -1,0 +1,14 @@
+-- The numbers of the paper that bound what a head end gives and is owed.
+-- Assumes nothing.
+use Prim.Native.Nat.{ℕ}
+
+-- "At most 16 added Alloc-IDs, 8 owed answers"
+abbrev pub addedAllocs : ℕ
+addedAllocs = 16
+
+abbrev pub mostOwed : ℕ
+mostOwed = 8
+
+-- 15.6.2: octets of a key
+abbrev pub keyOctets : ℕ
+keyOctets = 16
