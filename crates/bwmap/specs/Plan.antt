@@ -9,7 +9,7 @@ use lib.ListN.{length, drop}
 use Rattle.framing.specs.declared.allocation.Allocation.{Allocation}
 use Rattle.entries.specs.declared.Own.{Own}
 use Rattle.bwmap.specs.Limits.{planNumbers}
-use Rattle.bwmap.specs.Series.{Series, plannedOf, lastEnd, carriedOver}
+use Rattle.series.specs.Series.{Series, plannedOf, lastEnd, carriedOver}
 use Rattle.bwmap.specs.declared.Plan.{Plan}
 use Rattle.bwmap.specs.declared.Answer.{Answer}
 use Rattle.bwmap.specs.declared.Answer.the-variants.{Planned, PlanTooShort}

@@ -1,5 +1,5 @@
 // The records of a plan.
-use super::series;
+use super::search;
 use framing::allocation::Allocation;
 use framing::allocation::AllocationRead;
 use ids::AllocId;
@@ -8,7 +8,7 @@ ghost use mathlib.Core.Path.{_≡_};
 ghost use mathlib.Core.List.{_∷_, []};
 ghost use lib.ListN.{length};
 ghost use lib.Seq.{sets};
-ghost use Rattle.bwmap.specs.Series.{entryCount};
+ghost use Rattle.series.specs.Series.{entryCount};
 ghost use Rattle.bwmap.specs.Tables.{Tables};
 ghost use Rattle.bwmap.specs.Turns.{noAllocation, allocationAt, allocationsFrom};
 ghost use Rattle.bwmap.specs.Plan.{mark, burstFlags, headFlags, moreFlags, planRecord, moreNumbers, seriesNumbers};
@@ -81,7 +81,7 @@ pub(crate) fn allocation_at(
     requires { ⌜ Tables (now syndromes) (now flips) × (i < entryCount (now map)) ⌝ }
     ensures { λ r. ⌜ r ≡ allocationAt (now (map .entry)) i ⌝ }
 {
-    let at = series::STRUCTURE_OCTETS * i;
+    let at = search::STRUCTURE_OCTETS * i;
     match framing::allocation::read_allocation_by(syndromes, flips, &map[at..]) {
         AllocationRead::Fields(a) => a,
         AllocationRead::Unreadable => no_allocation(),

@@ -15,7 +15,7 @@ use Rattle.framing.specs.Reads.{Found, fields, unreadable, short, readHlend}
 use Rattle.station.specs.declared.answers.Answer.the-variants.{Done, StateOutOfRange, DelineationLost}
 use Rattle.station.specs.declared.Station.{Station}
 use Rattle.station.specs.Station.{powerOn}
-use Rattle.bwmap.specs.Series.{Series}
+use Rattle.series.specs.Series.{Series}
 use Rattle.bwmap.specs.Plan.{records, seriesNumbers, headFlags, burstFlags, written}
 use Rattle.bwmap.specs.Laser.{Sending, opens, granted, sending, laser}
 use Rattle.conduct.proofs.InRange.{sound-in-range, power-on-sound}

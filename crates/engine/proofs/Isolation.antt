@@ -23,7 +23,7 @@ use Rattle.payload.specs.Alike.{Alike}
 use Rattle.payload.specs.Memory.{Receiver}
 use Rattle.payload.specs.Walk.{Walked, walkOf}
 use Rattle.payload.proofs.Isolation.{isolated}
-use Rattle.bwmap.specs.Series.{Series, plannedOf}
+use Rattle.series.specs.Series.{Series, plannedOf}
 use Rattle.engine.specs.Lengths.{Lent}
 use Rattle.engine.specs.Partitions.{hlendOctets, mapEnd, headerEnd, mapOf, messagesOf, payloadOf}
 use Rattle.engine.specs.Frame.{Left, isOperating, ownOf, plannedIn, repliesIn, payloadIn, sentBy, next, done, handled, byHlend, frameLeft}

@@ -1,10 +1,10 @@
--- `bwmap::series::head_words` meets its contract.
+-- `series::head_words` meets its contract.
 -- Assumes nothing.
 use native.Mathlib.Omega.{arith}
-use Rattle.bwmap.specs.Series.{wordsOf}
+use Rattle.series.specs.Series.{wordsOf}
 use borrow.Author.Needs.{needs}
-use Rattle.bwmap.proofs.series.head_words.Statement.{statement}
-use Rattle.bwmap.proofs.series.head_words.Tie as tie
+use Rattle.series.proofs.head_words.Statement.{statement}
+use Rattle.series.proofs.head_words.Tie as tie
 
 long-requires : tie.Need-long-requires
 long-requires c κs = search needs

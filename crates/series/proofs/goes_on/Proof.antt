@@ -1,9 +1,9 @@
--- `bwmap::series::goes_on` meets its contract.
+-- `series::goes_on` meets its contract.
 -- Assumes nothing.
 use borrow.Author.Tests.{lt-ltb, le-ltb}
-use Rattle.bwmap.specs.Turns.{goesOn}
-use Rattle.bwmap.proofs.series.goes_on.Statement.{statement}
-use Rattle.bwmap.proofs.series.goes_on.Tie as tie
+use Rattle.series.specs.Opens.{goesOn}
+use Rattle.series.proofs.goes_on.Statement.{statement}
+use Rattle.series.proofs.goes_on.Tie as tie
 
 returns : tie.Need-returns
 unfolding goesOn

@@ -1,9 +1,9 @@
--- `bwmap::series::judge` meets its contract.
+-- `series::judge` meets its contract.
 -- Assumes nothing.
 use borrow.Author.Tests.{lt-ltb, le-ltb, lt-leb, le-leb}
-use Rattle.bwmap.specs.Series.{judged}
-use Rattle.bwmap.proofs.series.judge.Statement.{statement}
-use Rattle.bwmap.proofs.series.judge.Tie as tie
+use Rattle.series.specs.Series.{judged}
+use Rattle.series.proofs.judge.Statement.{statement}
+use Rattle.series.proofs.judge.Tie as tie
 
 returns : tie.Need-returns
 unfolding judged

@@ -1,10 +1,10 @@
--- `bwmap::series::joined` meets its contract.
+-- `bwmap::search::joined` meets its contract.
 -- Assumes nothing.
 use native.Mathlib.Omega.{arith}
-use Rattle.bwmap.proofs.Opens.{goes-on-facts}
+use Rattle.series.proofs.Opens.{goes-on-facts}
 use borrow.Author.Needs.{needs}
-use Rattle.bwmap.proofs.series.joined.Statement.{statement}
-use Rattle.bwmap.proofs.series.joined.Tie as tie
+use Rattle.bwmap.proofs.search.joined.Statement.{statement}
+use Rattle.bwmap.proofs.search.joined.Tie as tie
 
 add-t3 : tie.Need-add-t3
 add-t3 c = search needs

@@ -1,15 +1,17 @@
--- `bwmap::series::next_planned` meets its contract.
+-- `bwmap::search::next_planned` meets its contract.
 -- Assumes nothing.
 use mathlib.Core.Path.{_∙_, refl, sym}
 use Prim.Native.Nat.{_-_, _≤_}
 use native.Mathlib.Omega.{arith}
 use denote.Ref.{now}
 use borrow.Author.Needs.{needs}
-use Rattle.bwmap.specs.Series.{entryCount}
-use Rattle.bwmap.specs.Turns.{Modest, Stage, between}
-use Rattle.bwmap.proofs.Opens.{closed-modest, reached, none-left, ended, head-stops, apart-stops, more-stops, open-next, pass-stray, pass-by, go-further}
-use Rattle.bwmap.proofs.series.next_planned.Statement.{statement}
-use Rattle.bwmap.proofs.series.next_planned.Tie as tie
+use Rattle.series.specs.Series.{entryCount}
+use Rattle.series.specs.Opens.{Modest}
+use Rattle.bwmap.specs.Turns.{Stage, between}
+use Rattle.series.proofs.Opens.{closed-modest}
+use Rattle.bwmap.proofs.Opens.{reached, none-left, ended, head-stops, apart-stops, more-stops, open-next, pass-stray, pass-by, go-further}
+use Rattle.bwmap.proofs.search.next_planned.Statement.{statement}
+use Rattle.bwmap.proofs.search.next_planned.Tie as tie
 
 abbrev Inv-loop : tie.InvT-loop
 Inv-loop syndromes flips map own from end bursts n s₀ i₀ s i = (from ≤ i) × (i ≤ entryCount map) × Modest s × Stage own map end bursts from i s

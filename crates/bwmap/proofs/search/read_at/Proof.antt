@@ -1,4 +1,4 @@
--- `bwmap::series::read_at` meets its contract.
+-- `bwmap::search::read_at` meets its contract.
 -- Assumes nothing.
 use mathlib.Core.Path.{_∙_, ap}
 use native.Mathlib.Omega.{arith}
@@ -6,8 +6,8 @@ use denote.Ref.{now}
 use Rattle.entries.specs.Standings.{standing}
 use Rattle.bwmap.proofs.Reading.{read-entry}
 use borrow.Author.Needs.{needs}
-use Rattle.bwmap.proofs.series.read_at.Statement.{statement}
-use Rattle.bwmap.proofs.series.read_at.Tie as tie
+use Rattle.bwmap.proofs.search.read_at.Statement.{statement}
+use Rattle.bwmap.proofs.search.read_at.Tie as tie
 
 mul-at : tie.Need-mul-at
 mul-at c = search needs

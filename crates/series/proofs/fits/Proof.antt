@@ -1,12 +1,12 @@
--- `bwmap::series::fits` meets its contract.
+-- `series::fits` meets its contract.
 -- Assumes nothing.
 use mathlib.Core.Path.{_∙_, ap}
 use borrow.Author.Tests.{lt-ltb, le-ltb}
 use Rattle.entries.specs.Standings.{isPlanned}
-use Rattle.bwmap.specs.Turns.{fits}
+use Rattle.series.specs.Opens.{fits}
 use borrow.Author.Needs.{needs}
-use Rattle.bwmap.proofs.series.fits.Statement.{statement}
-use Rattle.bwmap.proofs.series.fits.Tie as tie
+use Rattle.series.proofs.fits.Statement.{statement}
+use Rattle.series.proofs.fits.Tie as tie
 
 judge-requires : tie.Need-judge-requires
 judge-requires c κs = search needs

@@ -15,7 +15,7 @@ use Rattle.entries.specs.declared.Standing.{Standing}
 use Rattle.entries.specs.declared.Standing.the-variants.{Apart, Head, More}
 use Rattle.entries.specs.Limits.{structureOctets}
 use Rattle.entries.specs.Standings.{standing, isPlanned}
-use Rattle.bwmap.specs.Limits.{burstsAFrame, entriesABurst, wordsABurst, ploamuWords}
+use Rattle.series.specs.Limits.{burstsAFrame, entriesABurst, wordsABurst, ploamuWords}
 
 -- ---- the entries of a map
 

@@ -1,9 +1,9 @@
--- `bwmap::series::opened` meets its contract.
+-- `series::opened` meets its contract.
 -- Assumes nothing.
 use native.Mathlib.Omega.{arith}
 use borrow.Author.Needs.{needs}
-use Rattle.bwmap.proofs.series.opened.Statement.{statement}
-use Rattle.bwmap.proofs.series.opened.Tie as tie
+use Rattle.series.proofs.opened.Statement.{statement}
+use Rattle.series.proofs.opened.Tie as tie
 
 long-requires : tie.Need-long-requires
 long-requires c κs = search needs
