@@ -29,7 +29,7 @@ use Rattle.timing.specs.Timing.{lostTime}
 use Rattle.host.specs.declared.Outcome.{Outcome}
 use Rattle.host.specs.Host.{found, outcome, answerToAdd, answerToRemove, answerToKey, afterAdd, afterRemove, afterKey}
 use Rattle.payload.specs.Frames.{parse}
-use Rattle.payload.specs.Stretch.{stretchOf}
+use Rattle.stretches.specs.Stretch.{stretchOf}
 use Rattle.engine.specs.Lengths.{lengthFits}
 use Rattle.engine.specs.Partitions.{headerEnd, payloadOf}
 use Rattle.engine.specs.Frame.{isOperating}

@@ -1,12 +1,12 @@
--- `payload::alone::delivered` meets its contract.
+-- `stretches::delivered` meets its contract.
 -- Assumes nothing.
 use mathlib.Core.Path.{ap}
 use borrow.Author.Tests.{eq-eqb, ne-eqb}
-use Rattle.payload.specs.declared.alone.Seek.{Seek}
-use Rattle.payload.specs.declared.alone.Seek.the-variants.{Found}
+use Rattle.stretches.specs.declared.Seek.{Seek}
+use Rattle.stretches.specs.declared.Seek.the-variants.{Found}
 use borrow.Author.Needs.{needs}
-use Rattle.payload.proofs.alone.delivered.Statement.{statement}
-use Rattle.payload.proofs.alone.delivered.Tie as tie
+use Rattle.stretches.proofs.delivered.Statement.{statement}
+use Rattle.stretches.proofs.delivered.Tie as tie
 
 none-requires : tie.Need-none-requires
 none-requires c κs = search needs

@@ -1,4 +1,4 @@
--- `payload::alone::stretch_place` meets its contract: at each turn the search over what is still to come finds what the search over the whole finds.
+-- `stretches::stretch_place` meets its contract: at each turn the search over what is still to come finds what the search over the whole finds.
 -- Assumes nothing.
 use denote.Ref.{now}
 use mathlib.Core.Path.{_≡_, refl, sym, ap, _∙_}
@@ -10,12 +10,12 @@ use lib.ListN.{length, take, drop, length-map}
 use Rattle.framing.specs.Layouts.{payloadSize}
 use Rattle.station.specs.Limits.{addedPorts}
 use Rattle.fragments.proofs.Effects.{effect-within}
 use Rattle.payload.specs.declared.frames.Next.the-variants.{Frame}
 use Rattle.payload.specs.Frames.{nextOf}
 use Rattle.payload.proofs.Walks.{Numbers, numbers-of, rest-part}
-use Rattle.payload.proofs.Stretches.{Seen, seen-start, seen-done, seen-lost, seen-on}
-use Rattle.payload.proofs.alone.stretch_place.Statement.{statement}
-use Rattle.payload.proofs.alone.stretch_place.Tie as tie
+use Rattle.stretches.proofs.Stretches.{Seen, seen-start, seen-done, seen-lost, seen-on}
+use Rattle.stretches.proofs.stretch_place.Statement.{statement}
+use Rattle.stretches.proofs.stretch_place.Tie as tie
 
 abbrev Inv-loop : tie.InvT-loop
 Inv-loop own payload k syndromes flips held₀ seek₀ at₀ held seek at =

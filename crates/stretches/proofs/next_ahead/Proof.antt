@@ -1,4 +1,4 @@
--- `payload::alone::next_ahead` meets its contract: the tables are the true ones.
+-- `stretches::next_ahead` meets its contract: the tables are the true ones.
 -- Assumes nothing.
 use denote.Ref.{now}
 use mathlib.Core.Path.{_≡_, sym, ap, _∙_}
@@ -6,10 +6,10 @@ use Prim.Native.Nat.{ℕ, _+_}
 use native.Mathlib.Omega.{arith}
 use Rattle.framing.specs.Reads.{fields, short, unreadable, foundXgem, readXgem}
 use Rattle.framing.proofs.Frames.{size-le}
 use Rattle.payload.proofs.Reading.{lent-xgem, pli-lt, none-ahead, lost-ahead, long-ahead, frame-ahead}
 use borrow.Author.Needs.{needs}
-use Rattle.payload.proofs.alone.next_ahead.Statement.{statement}
-use Rattle.payload.proofs.alone.next_ahead.Tie as tie
+use Rattle.stretches.proofs.next_ahead.Statement.{statement}
+use Rattle.stretches.proofs.next_ahead.Tie as tie
 
 read-xgem-by-requires : tie.Need-read-xgem-by-requires
 read-xgem-by-requires c κs = search needs

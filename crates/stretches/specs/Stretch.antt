@@ -10,12 +10,12 @@ use Rattle.station.specs.declared.slots.Ports.{Ports}
 use Rattle.fragments.specs.declared.Effect.{Effect}
 use Rattle.fragments.specs.declared.Effect.the-variants.{Nothing, Discard, Deliver, Append}
 use Rattle.fragments.specs.Fragments.{effectOf}
-use Rattle.payload.specs.declared.alone.Extent.{Extent}
-use Rattle.payload.specs.declared.alone.Seek.{Seek}
-use Rattle.payload.specs.declared.alone.Seek.the-variants.{Ahead, Found}
-use Rattle.payload.specs.declared.alone.StretchPlace.{StretchPlace}
+use Rattle.stretches.specs.declared.Extent.{Extent}
+use Rattle.stretches.specs.declared.Seek.{Seek}
+use Rattle.stretches.specs.declared.Seek.the-variants.{Ahead, Found}
+use Rattle.stretches.specs.declared.StretchPlace.{StretchPlace}
 use Rattle.payload.specs.Frames.{Xgem, Parsed, parse}
 use Rattle.payload.specs.Memory.{Receiver, after, partial, step}
 
 -- the empty stretch
 abbrev pub noExtent : Extent

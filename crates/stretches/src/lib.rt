@@ -1,17 +1,18 @@
-// An unfragmented SDU as its own stretch of the payload. The search decides as the walk does, and touches no memory.
+// An unfragmented SDU as its own stretch of the payload of a downstream frame (clauses 9.1 to 9.3). The search decides as
+// the walk does, and touches no memory.
 ghost use mathlib.Core.Path.{_≡_};
 ghost use lib.ListN.{length};
 ghost use Rattle.hec.specs.Lent.{Syndromes, Flips};
 ghost use Rattle.fragments.specs.Within.{Within};
 ghost use Rattle.payload.specs.Frames.{nextOf};
 ghost use Rattle.payload.specs.Inside.{Inside};
 ghost use Rattle.payload.specs.Memory.{after};
-ghost use Rattle.payload.specs.Stretch.{noExtent, sought, settled, stretchOf, cutOut};
-use super::frames::Next;
+ghost use Rattle.stretches.specs.Stretch.{noExtent, sought, settled, stretchOf, cutOut};
 use fragments::Effect;
 use framing::xgem;
 use framing::xgem::XgemRead;
 use ids::PortId;
+use payload::Next;
 use station::slots::Ports;
 
 // So many bytes from a place of the payload.
@@ -84,7 +85,7 @@ fn settle(seek: Seek, lost: bool) -> StretchPlace
     }
 }
 
-// What `frames::next_frame` finds. The search has a function of its own for it, as for a fragment's effect: with a second
+// What payload's `frames::next_frame` finds. The search has a function of its own for it, as for a fragment's effect: with a second
 // caller those of the walk were no longer merged into its loop.
 fn next_ahead(syndromes: &[u16; 2048], flips: &[u16; 4096], left: &[u8]) -> Next
     requires { ⌜ Syndromes (now syndromes) × Flips (now flips) ⌝ }

@@ -18,13 +18,13 @@ use Rattle.framing.proofs.Frames.{covers}
 use Rattle.fragments.specs.declared.Effect.{Effect}
 use Rattle.fragments.specs.declared.Effect.the-variants.{Nothing, Discard, Deliver, Append}
 use Rattle.fragments.specs.Fragments.{effectOf}
 use Rattle.payload.specs.declared.frames.Next.{Next}
 use Rattle.payload.specs.declared.frames.Next.the-variants.{Done, Lost, Frame}
-use Rattle.payload.specs.declared.alone.Extent.{Extent}
+use Rattle.stretches.specs.declared.Extent.{Extent}
 use Rattle.payload.specs.Frames.{Xgem, nextOf, Parsed, ended, with, frameOf, parse}
 use Rattle.payload.specs.Memory.{Receiver, after, partial, taken, done, step}
-use Rattle.payload.specs.Stretch.{noExtent, aloneAt, stretches, stretchOf, sduOf, sdus}
+use Rattle.stretches.specs.Stretch.{noExtent, aloneAt, stretches, stretchOf, sduOf, sdus}
 use Rattle.payload.proofs.Walks.{frame-inside, parse-done, parse-lost, parse-next}
 
 -- a frame's bytes stand in the payload behind its header
 abbrev Cut : List ℕ → Xgem → Type 0

@@ -1,9 +1,9 @@
--- `payload::alone::seek_on` meets its contract, a case after the other.
+-- `stretches::seek_on` meets its contract, a case after the other.
 -- Assumes nothing.
 use mathlib.Core.Path.{_∙_}
 use borrow.Author.Needs.{needs}
-use Rattle.payload.proofs.alone.seek_on.Statement.{statement}
-use Rattle.payload.proofs.alone.seek_on.Tie as tie
+use Rattle.stretches.proofs.seek_on.Statement.{statement}
+use Rattle.stretches.proofs.seek_on.Tie as tie
 
 enum-told : tie.Need-enum-told
 enum-told c = search needs

@@ -1,11 +1,11 @@
--- `payload::alone::settle` meets its contract.
+-- `stretches::settle` meets its contract.
 -- Assumes nothing.
 use mathlib.Core.Path.{ap}
-use Rattle.payload.specs.declared.alone.Extent.{Extent}
-use Rattle.payload.specs.declared.alone.StretchPlace.{StretchPlace}
+use Rattle.stretches.specs.declared.Extent.{Extent}
+use Rattle.stretches.specs.declared.StretchPlace.{StretchPlace}
 use borrow.Author.Needs.{needs}
-use Rattle.payload.proofs.alone.settle.Statement.{statement}
-use Rattle.payload.proofs.alone.settle.Tie as tie
+use Rattle.stretches.proofs.settle.Statement.{statement}
+use Rattle.stretches.proofs.settle.Tie as tie
 
 enum-known-seek : tie.Need-enum-known-seek
 enum-known-seek c = search needs

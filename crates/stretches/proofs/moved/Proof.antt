@@ -1,4 +1,4 @@
--- `payload::alone::moved` meets its contract: in each arm the effect is known, and within its slot.
+-- `stretches::moved` meets its contract: in each arm the effect is known, and within its slot.
 -- Assumes nothing.
 use mathlib.Core.Path.{_≡_, refl, sym, ap, _∙_}
 use Prim.Native.Nat.{ℕ, _+_, _≤_, _<_}
@@ -6,10 +6,10 @@ use native.Mathlib.Omega.{arith}
 use lib.ListN.{getD}
 use Rattle.station.specs.Limits.{slots, slotBytes}
 use Rattle.fragments.specs.Within.{Within}
 use Rattle.payload.specs.Memory.{after}
 use borrow.Author.Needs.{needs}
-use Rattle.payload.proofs.alone.moved.Statement.{statement}
-use Rattle.payload.proofs.alone.moved.Tie as tie
+use Rattle.stretches.proofs.moved.Statement.{statement}
+use Rattle.stretches.proofs.moved.Tie as tie
 
 enum-told : tie.Need-enum-told
 enum-told c = search needs

@@ -1,4 +1,4 @@
--- `payload::alone::stretch` meets its contract: at each return the tests that led there say which part it is.
+-- `stretches::stretch` meets its contract: at each return the tests that led there say which part it is.
 -- Assumes nothing.
 use denote.Ref.{now}
 use mathlib.Core.Path.{ap}
@@ -7,8 +7,8 @@ use native.Mathlib.Nat.{add-sub-cancel-left}
 use borrow.Author.Tests.{le-leb, lt-leb}
 use lib.ListN.{take, drop}
 use borrow.Author.Needs.{needs}
-use Rattle.payload.proofs.alone.stretch.Statement.{statement}
-use Rattle.payload.proofs.alone.stretch.Tie as tie
+use Rattle.stretches.proofs.stretch.Statement.{statement}
+use Rattle.stretches.proofs.stretch.Tie as tie
 
 sub-if2 : tie.Need-sub-if2
 sub-if2 c = search needs
