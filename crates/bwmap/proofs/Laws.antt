@@ -15,7 +15,8 @@ use Rattle.entries.specs.declared.Standing.{Standing}
 use Rattle.entries.specs.declared.Standing.the-variants.{Apart, Head, More}
 use Rattle.entries.specs.Standings.{standing}
 use Rattle.series.specs.Series.{entryAt, entryCount, run, seriesOf, grants}
-use Rattle.bwmap.specs.Plan.{moreFlags, planRecord, moreNumbers}
+use Rattle.plan.specs.Records.{moreFlags, planRecord}
+use Rattle.bwmap.specs.Plan.{moreNumbers}
 use Rattle.bwmap.specs.Turns.{rest, tally, allocationAt, allocationsFrom}
 use Rattle.series.proofs.Runs.{run-nil, run-head, run-apart}
 

@@ -11,7 +11,8 @@ use lib.Seq.{take-at, drop-at}
 use Rattle.framing.specs.declared.allocation.Allocation.{Allocation}
 use Rattle.entries.specs.declared.Own.{Own}
 use Rattle.series.specs.Series.{Series, plannedOf}
-use Rattle.bwmap.specs.Plan.{mark, burstFlags, headFlags, moreFlags, planRecord, moreNumbers, seriesNumbers, numbers, records, written}
+use Rattle.plan.specs.Records.{mark, burstFlags, headFlags, moreFlags, planRecord}
+use Rattle.bwmap.specs.Plan.{moreNumbers, seriesNumbers, numbers, records, written}
 use Rattle.bwmap.specs.Laser.{Grant, Sending, Record, recordsOf, flagged, opens, granted, joining, sending, sendings, laser, grantOf, grantsOf, burstOf, burstsOf}
 use Rattle.bwmap.proofs.Steps.{length-numbers}
 

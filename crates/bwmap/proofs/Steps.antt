@@ -16,7 +16,8 @@ use Rattle.entries.proofs.Facts.{ours-is, head-start, silent-apart}
 use Rattle.series.specs.Limits.{burstsAFrame}
 use Rattle.bwmap.specs.Limits.{planNumbers}
 use Rattle.series.specs.Series.{Series, entryAt, entryCount, standingsFrom, run, seriesAt, seriesOf, grants, wordsOf, endOf, judged, verdictOf, planned, lastEnd, carriedOver, plannedOf}
-use Rattle.bwmap.specs.Plan.{mark, moreNumbers, seriesNumbers, numbers, entriesIn, records, messages, Left, counted, written}
+use Rattle.plan.specs.Records.{mark}
+use Rattle.bwmap.specs.Plan.{moreNumbers, seriesNumbers, numbers, entriesIn, records, messages, Left, counted, written}
 use Rattle.bwmap.specs.Turns.{rest, Run, tally, Outcome, outcome, toCome, starting, Small}
 use Rattle.bwmap.specs.declared.Walk.{Walk}
 use Rattle.bwmap.specs.declared.Answer.the-variants.{Planned as PlannedAnswer}

@@ -16,7 +16,8 @@ use Rattle.station.specs.declared.answers.Answer.the-variants.{Done, StateOutOf
 use Rattle.station.specs.declared.Station.{Station}
 use Rattle.station.specs.Station.{powerOn}
 use Rattle.series.specs.Series.{Series}
-use Rattle.bwmap.specs.Plan.{records, seriesNumbers, headFlags, burstFlags, written}
+use Rattle.plan.specs.Records.{headFlags, burstFlags}
+use Rattle.bwmap.specs.Plan.{records, seriesNumbers, written}
 use Rattle.bwmap.specs.Laser.{Sending, opens, granted, sending, laser}
 use Rattle.conduct.proofs.InRange.{sound-in-range, power-on-sound}
 use Rattle.ledger.proofs.Runs.{ledger-exact}

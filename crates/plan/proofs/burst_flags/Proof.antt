@@ -1,10 +1,10 @@
--- `bwmap::records::burst_flags` meets its contract.
+-- `plan::burst_flags` meets its contract.
 -- Assumes nothing.
 use native.Mathlib.Omega.{arith}
-use Rattle.bwmap.specs.Plan.{burstFlags}
+use Rattle.plan.specs.Records.{burstFlags}
 use borrow.Author.Needs.{needs}
-use Rattle.bwmap.proofs.records.burst_flags.Statement.{statement}
-use Rattle.bwmap.proofs.records.burst_flags.Tie as tie
+use Rattle.plan.proofs.burst_flags.Statement.{statement}
+use Rattle.plan.proofs.burst_flags.Tie as tie
 
 flag-requires : tie.Need-flag-requires
 flag-requires c κs = search needs

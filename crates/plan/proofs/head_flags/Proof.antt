@@ -1,10 +1,10 @@
--- `bwmap::records::head_flags` meets its contract.
+-- `plan::head_flags` meets its contract.
 -- Assumes nothing.
 use native.Mathlib.Omega.{arith}
-use Rattle.bwmap.specs.Plan.{headFlags}
+use Rattle.plan.specs.Records.{headFlags}
 use borrow.Author.Needs.{needs}
-use Rattle.bwmap.proofs.records.head_flags.Statement.{statement}
-use Rattle.bwmap.proofs.records.head_flags.Tie as tie
+use Rattle.plan.proofs.head_flags.Statement.{statement}
+use Rattle.plan.proofs.head_flags.Tie as tie
 
 flag-requires : tie.Need-flag-requires
 flag-requires c κs = search needs

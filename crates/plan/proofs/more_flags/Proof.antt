@@ -1,10 +1,10 @@
--- `bwmap::records::more_flags` meets its contract.
+-- `plan::more_flags` meets its contract.
 -- Assumes nothing.
 use native.Mathlib.Omega.{arith}
-use Rattle.bwmap.specs.Plan.{moreFlags}
+use Rattle.plan.specs.Records.{moreFlags}
 use borrow.Author.Needs.{needs}
-use Rattle.bwmap.proofs.records.more_flags.Statement.{statement}
-use Rattle.bwmap.proofs.records.more_flags.Tie as tie
+use Rattle.plan.proofs.more_flags.Statement.{statement}
+use Rattle.plan.proofs.more_flags.Tie as tie
 
 flag-requires : tie.Need-flag-requires
 flag-requires c κs = search needs
