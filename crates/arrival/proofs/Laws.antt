@@ -29,11 +29,13 @@ use Rattle.ploam.specs.Layout.{messageOctets}
 use Rattle.entries.specs.declared.Own.{Own}
 use Rattle.bwmap.specs.declared.Answer as planning
 use Rattle.bwmap.specs.declared.Plan.{Plan}
-use Rattle.bwmap.specs.Limits.{planNumbers, burstsAFrame}
-use Rattle.bwmap.specs.Series.{Series, plannedOf}
+use Rattle.series.specs.Limits.{burstsAFrame}
+use Rattle.bwmap.specs.Limits.{planNumbers}
+use Rattle.series.specs.Series.{Series, plannedOf}
 use Rattle.bwmap.specs.declared.Answer.the-variants.{Planned}
 use Rattle.bwmap.specs.Plan as whole
-use Rattle.bwmap.specs.Plan.{mark, messages, counted, written, MapLeaves, Left}
+use Rattle.plan.specs.Records.{mark}
+use Rattle.bwmap.specs.Plan.{messages, counted, written, MapLeaves, Left}
 use Rattle.bwmap.proofs.Kept.{bursts-most}
 use Rattle.payload.specs.Walk.{Walked, memoryBytes, allWithin, fit, receiveOf}
 use Rattle.arrival.specs.Limits.{replyOctets}

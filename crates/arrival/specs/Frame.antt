@@ -22,7 +22,7 @@ use Rattle.activation.specs.Receiving.{receiveAll, messagesIn}
 use Rattle.replies.specs.Replies as replied
 use Rattle.replies.specs.Replies.{repliesFrom}
 use Rattle.entries.specs.declared.Own.{Own}
-use Rattle.bwmap.specs.Series.{Series, plannedOf, lastEnd, carriedOver}
+use Rattle.series.specs.Series.{Series, plannedOf, lastEnd, carriedOver}
 use Rattle.bwmap.specs.declared.Plan.{Plan}
 use Rattle.bwmap.specs.declared.Answer as planning
 use Rattle.bwmap.specs.declared.Answer.the-variants.{Planned, PlanTooShort}

@@ -2,7 +2,7 @@
 -- Assumes nothing.
 use Prim.Native.Nat.{ℕ, _*_}
 use Rattle.ploam.specs.Layout.{messageOctets}
-use Rattle.bwmap.specs.Limits.{burstsAFrame}
+use Rattle.series.specs.Limits.{burstsAFrame}
 
 -- "A frame is 4 to 135,432 bytes, a multiple of 4"
 abbrev pub leastFrame : ℕ

@@ -9,7 +9,7 @@ ghost use Rattle.ranges.specs.Ranges.{inRange};
 ghost use Rattle.bwmap.specs.Limits.{planNumbers};
 ghost use Rattle.bwmap.specs.Tables.{Tables};
 ghost use Rattle.bwmap.specs.Plan.{counted, written};
-ghost use Rattle.bwmap.specs.Series.{plannedOf};
+ghost use Rattle.series.specs.Series.{plannedOf};
 ghost use Rattle.payload.specs.Walk.{memoryBytes};
 ghost use Rattle.arrival.specs.Lengths.{lengthFits, buffersFit};
 ghost use Rattle.arrival.specs.Partitions.{headerEnd};

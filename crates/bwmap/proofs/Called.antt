@@ -16,8 +16,8 @@ use Rattle.entries.specs.declared.Standing.{Standing}
 use Rattle.entries.specs.declared.Standing.the-variants.{Apart, Head, More}
 use Rattle.entries.specs.Standings.{standing, isPlanned}
 use Rattle.entries.proofs.Facts.{ours-is, apart-unplanned}
-use Rattle.bwmap.specs.Limits.{entriesABurst}
-use Rattle.bwmap.specs.Series.{Series, entryAt, entryCount, standingsFrom, standings, run, seriesAt, seriesOf, endOf, verdictOf, planned, plannedOf}
+use Rattle.series.specs.Limits.{entriesABurst}
+use Rattle.series.specs.Series.{Series, entryAt, entryCount, standingsFrom, standings, run, seriesAt, seriesOf, endOf, verdictOf, planned, plannedOf}
 use Rattle.bwmap.specs.Verdicts.{roles, verdictsOf, verdicts, entriesFrom, entries, called, readable, entriesOf}
 
 -- what is left of the series that is open with k so far

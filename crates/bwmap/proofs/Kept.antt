@@ -25,12 +25,13 @@ use Rattle.entries.specs.declared.Standing.{Standing}
 use Rattle.entries.specs.declared.Standing.the-variants.{Apart, Head, More}
 use Rattle.entries.specs.Standings.{standing, isPlanned, Mine}
 use Rattle.entries.proofs.Facts.{ours-is, standsAs, head-start}
-use Rattle.bwmap.specs.Limits.{wordsABurst, burstsAFrame, entriesABurst}
-use Rattle.bwmap.specs.Series.{Series, entryAt, entryCount, standingsFrom, standings, run, seriesAt, seriesOf, burstWords, endOf, judged, verdictOf, planned, lastEnd, carriedOver, plannedOf}
+use Rattle.series.specs.Limits.{wordsABurst, burstsAFrame, entriesABurst}
+use Rattle.series.specs.Series.{Series, entryAt, entryCount, standingsFrom, standings, run, seriesAt, seriesOf, burstWords, endOf, judged, verdictOf, planned, lastEnd, carriedOver, plannedOf}
 use Rattle.bwmap.specs.Plan.{entriesIn, records}
 use Rattle.bwmap.specs.Promises.{Follow, SeriesIn, Every, Because, Account}
 use Rattle.bwmap.specs.Promises.Account.{done, plans, too-long, overlapping, after-the-fourth}
-use Rattle.bwmap.proofs.Steps.{run-length, planned-facts}
+use Rattle.series.proofs.Runs.{run-length}
+use Rattle.series.proofs.Judged.{planned-facts}
 
 -- ---- fields of a word that was read
 

@@ -1,8 +1,8 @@
 -- What the loops over the entries need, a turn at a time.
 -- Assumes nothing.
-use Prim.Native.Nat.{ℕ, zero, suc, _+_, _-_, _*_, _≤_, _<_}
-use mathlib.Core.Path.{_≡_, _∙_, refl, sym, ap}
-use mathlib.Core.List.{List, [], _∷_, _++_}
+use Prim.Native.Nat.{ℕ, suc, _+_, _-_, _*_, _≤_, _<_}
+use mathlib.Core.Path.{_≡_, sym}
+use mathlib.Core.List.{List, [], _∷_}
 use native.Mathlib.Omega.{arith}
 use native.Mathlib.Numerals.{add-one}
 use native.Mathlib.Nat.{add-zero}
@@ -14,9 +14,11 @@ use Rattle.entries.specs.declared.Verdict.{Verdict}
 use Rattle.entries.specs.declared.Standing.{Standing}
 use Rattle.entries.specs.declared.Standing.the-variants.{Apart, Head, More}
 use Rattle.entries.specs.Standings.{standing}
-use Rattle.bwmap.specs.Series.{entryAt, entryCount, run, seriesOf, grants}
-use Rattle.bwmap.specs.Plan.{moreFlags, planRecord, moreNumbers}
-use Rattle.bwmap.specs.Turns.{rest, Run, tally, allocationAt, allocationsFrom}
+use Rattle.series.specs.Series.{entryAt, entryCount, run, seriesOf, grants}
+use Rattle.plan.specs.Records.{moreFlags, planRecord}
+use Rattle.bwmap.specs.Plan.{moreNumbers}
+use Rattle.bwmap.specs.Turns.{rest, tally, allocationAt, allocationsFrom}
+use Rattle.series.proofs.Runs.{run-nil, run-head, run-apart}
 
 -- ---- the entries that are left
 
@@ -40,18 +42,6 @@ module _ (own : Own) (m : List ℕ) (i : ℕ) where
     pass-more a q = rw (rest-cons h, ← p, q)
 
 -- ---- a run
-
-run-nil : (k : ℕ) → run k [] ≡ []
-run-nil zero = refl
-run-nil (suc k) = refl
-
-run-head : (k : ℕ) (a : Allocation) (l : List Standing) → run k (Head a ∷ l) ≡ []
-run-head zero a l = refl
-run-head (suc k) a l = refl
-
-run-apart : (k : ℕ) (v : Verdict) (l : List Standing) → run k (Apart v ∷ l) ≡ []
-run-apart zero v l = refl
-run-apart (suc k) v l = refl
 
 tally-nil : (k g : ℕ) → tally k g [] ≡ record { count = k; grants = g }
 tally-nil k g = rw (add-zero k, add-zero g)

@@ -10,10 +10,10 @@ use borrow.Author.Tests.{lt-leb, ltb-true}
 use Rattle.station.specs.Limits.{upstreamWords}
 use Rattle.entries.specs.declared.Own.{Own}
 use Rattle.entries.specs.Standings.{isPlanned}
-use Rattle.bwmap.specs.Series.{Series, seriesOf, standings, plannedOf, planned, burstWords, endOf, lastEnd, verdictOf}
+use Rattle.series.specs.Series.{Series, seriesOf, standings, plannedOf, planned, burstWords, endOf, lastEnd, verdictOf}
 use Rattle.bwmap.specs.Upstream.{FrameTime, Burst, finish, sent, carry, bursts, burstsOf, takes, takers, Apart}
 use Rattle.bwmap.specs.Upstream.FrameTime.{dark, frame}
-use Rattle.bwmap.proofs.Steps.{planned-facts}
+use Rattle.series.proofs.Judged.{planned-facts}
 use Rattle.bwmap.proofs.Kept.{carried-most}
 
 abbrev ends : ℕ → List Burst → ℕ

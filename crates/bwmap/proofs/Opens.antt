@@ -3,12 +3,10 @@
 use Prim.Native.Nat.{ℕ, zero, suc, _+_, _-_, _*_, _≤_, _<_, _^_}
 use mathlib.Core.Path.{_≡_, _∙_, refl, sym, ap, ap₂}
 use mathlib.Core.List.{List, [], _∷_}
-use mathlib.Core.Bool.{Bool, true, false, _&&_, true≢false, false≢true}
+use mathlib.Core.Bool.{true, false}
 use native.Mathlib.Omega.{arith}
-use lib.Dec.{ltb, leb}
 use lib.ListN.{length}
 use lib.Seq.{sets}
-use borrow.Author.Tests.{lt-ltb, ltb-true, ltb-false, leb-true, leb-false}
 use Rattle.xgtc.specs.declared.allocation.Allocation.{Allocation}
 use Rattle.entries.specs.declared.Own.{Own}
 use Rattle.entries.specs.declared.Verdict.{Verdict}
@@ -16,54 +14,19 @@ use Rattle.entries.specs.declared.Standing.{Standing}
 use Rattle.entries.specs.declared.Standing.the-variants.{Apart, Head, More}
 use Rattle.entries.specs.Standings.{standing, isPlanned}
 use Rattle.entries.proofs.Facts.{ours-is}
-use Rattle.bwmap.specs.Series.{Series, entryAt, entryCount, standingsFrom, run, seriesAt, seriesOf, wordsOf, judged, planned}
-use Rattle.bwmap.specs.Plan.{mark, seriesNumbers}
-use Rattle.bwmap.specs.Turns.{rest, Run, tally, closed, opened, joined, goesOn, fits, Modest, Running, Stage, between, within, Reached, fieldsOf, allocationAt, allocationsFrom, toCome}
-use Rattle.bwmap.specs.declared.series.Open.{Open}
+use Rattle.series.specs.Series.{Series, entryAt, entryCount, standingsFrom, run, seriesAt, seriesOf, judged, planned}
+use Rattle.plan.specs.Records.{mark}
+use Rattle.bwmap.specs.Plan.{seriesNumbers}
+use Rattle.series.specs.Opens.{closed, opened, joined, goesOn, fits}
+use Rattle.bwmap.specs.Turns.{rest, Run, tally, Running, Stage, between, within, Reached, fieldsOf, allocationAt, allocationsFrom, toCome}
+use Rattle.series.specs.declared.Open.{Open}
 use Rattle.bwmap.specs.declared.Walk.{Walk}
+use Rattle.series.proofs.Judged.{planned-facts}
+use Rattle.series.proofs.Opens.{goes-on-facts, full-or-none, fits-facts, unfit, more-words}
 use Rattle.bwmap.proofs.Laws.{rest-nil, pass-apart, pass-more, stop-end, stop-full, stop-head, stop-apart, go-on, tally-step, tally-done}
-use Rattle.bwmap.proofs.Steps.{planned-facts, head-low, count-is, judged-so, pass-series, plan-series}
-
--- ---- its tests
-
-pub goes-on-facts : (s : Open) → goesOn s ≡ true → (0 < s .entries) × (s .entries ≤ 15)
-unfolding goesOn
-goes-on-facts s h = go (ltb 0 (s .entries)) (leb (s .entries) 15) refl refl h
-  where
-    go : (a b : Bool) → ltb 0 (s .entries) ≡ a → leb (s .entries) 15 ≡ b → (a && b) ≡ true → (0 < s .entries) × (s .entries ≤ 15)
-    go true true p q e = (ltb-true 0 (s .entries) p, leb-true (s .entries) 15 q)
-    go true false p q e = absurd (false≢true e)
-    go false b p q e = absurd (false≢true e)
-
-full-or-none : (s : Open) (k : ℕ) → goesOn s ≡ false → s .entries ≡ k + 1 → 15 ≤ k
-unfolding goesOn
-full-or-none s k h one = go (ltb 0 (s .entries)) (leb (s .entries) 15) refl refl h
-  where
-    go : (a b : Bool) → ltb 0 (s .entries) ≡ a → leb (s .entries) 15 ≡ b → (a && b) ≡ false → 15 ≤ k
-    go true true p q e = absurd (true≢false e)
-    go true false p q e = omega (arith, leb-false (s .entries) 15 q)
-    go false b p q e = omega (arith, ltb-false 0 (s .entries) p)
-
-pub fits-facts : (e n : ℕ) (s : Open) → fits e n s ≡ true → (0 < s .entries) × (isPlanned (judged e n (s .start) (s .words)) ≡ true)
-unfolding fits
-fits-facts e n s h = go (ltb 0 (s .entries)) refl h
-  where
-    go : (a : Bool) → ltb 0 (s .entries) ≡ a → (a && isPlanned (judged e n (s .start) (s .words))) ≡ true → (0 < s .entries) × (isPlanned (judged e n (s .start) (s .words)) ≡ true)
-    go true p q = (ltb-true 0 (s .entries) p, q)
-    go false p q = absurd (false≢true q)
-
-unfit : (e n : ℕ) (s : Open) → 0 < s .entries → fits e n s ≡ false → isPlanned (judged e n (s .start) (s .words)) ≡ false
-unfolding fits
-unfit e n s h f = sym (rw (lt-ltb 0 (s .entries) h)) ∙ f
-
-pub closed-modest : (s : Open) → s ≡ closed → Modest s
-closed-modest s e = rw e (record { few = omega arith; start = omega arith; words = omega arith })
+use Rattle.bwmap.proofs.Steps.{head-low, count-is, judged-so, pass-series, plan-series}
 
 -- ---- one entry further
-
-more-words : (h : Allocation) (g x : ℕ) → wordsOf h g + x ≡ wordsOf h (g + x)
-unfolding wordsOf
-more-words h g x = omega arith
 
 -- an entry that goes no series on
 abbrev Stops : Own → List ℕ → ℕ → Open → Type 0

@@ -20,7 +20,7 @@ use Rattle.framing.specs.Reads.{Found, short, taken, readAs}
 use Rattle.xgtc.specs.Reads.{readAllocation}
 use Rattle.framing.proofs.Numbers.{Bytes, value-lt}
 use Rattle.entries.specs.Standings.{readBy}
-use Rattle.bwmap.specs.Series.{entryAt}
+use Rattle.series.specs.Series.{entryAt}
 use Rattle.bwmap.specs.Tables.{Tables}
 
 bytes : (m : List ℕ) → ((k : ℕ) → getD m k 0 < 256) → (n k : ℕ) → Bytes (take n (drop k m))

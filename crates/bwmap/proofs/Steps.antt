@@ -1,31 +1,28 @@
 -- What one series does to what is still to come.
 -- Assumes nothing.
-use Prim.Native.Nat.{ℕ, zero, suc, _+_, _-_, _*_, _≤_, _<_, _^_, zero-le}
+use Prim.Native.Nat.{ℕ, zero, suc, _+_, _-_, _*_, _≤_, _<_, _^_}
 use mathlib.Core.Path.{_≡_, _∙_, refl, sym, ap}
 use mathlib.Core.List.{List, [], _∷_, _++_}
-use mathlib.Core.Bool.{Bool, true, false, cond, false≢true}
+use mathlib.Core.Bool.{true, false}
 use native.Mathlib.Omega.{arith}
 use native.Mathlib.Nat.{add-zero, zero-add, sub-zero}
-use lib.Dec.{leb, ltb}
 use lib.ListN.{length, drop, length-append}
 use lib.Seq.{sets, sets-eq}
-use borrow.Author.Tests.{ltb-false, leb-false, le-leb}
 use Rattle.xgtc.specs.declared.allocation.Allocation.{Allocation}
 use Rattle.entries.specs.declared.Own.{Own}
-use Rattle.entries.specs.declared.Verdict.{Verdict}
-use Rattle.entries.specs.declared.Verdict.the-variants.{Planned, TooLong, Overlapping, AfterTheFourth}
-use Rattle.entries.specs.declared.Standing.{Standing}
-use Rattle.entries.specs.declared.Standing.the-variants.{Apart, Head, More}
+use Rattle.entries.specs.declared.Standing.the-variants.{Head}
 use Rattle.entries.specs.Standings.{standing, isPlanned, silent}
 use Rattle.entries.proofs.Facts.{ours-is, head-start, silent-apart}
-use Rattle.bwmap.specs.Limits.{wordsABurst, burstsAFrame, planNumbers}
-use Rattle.bwmap.specs.Series.{Series, entryAt, entryCount, standingsFrom, run, seriesAt, seriesOf, grants, wordsOf, burstWords, endOf, judged, verdictOf, planned, lastEnd, carriedOver, plannedOf}
-use Rattle.bwmap.specs.Plan.{mark, moreFlags, planRecord, moreNumbers, seriesNumbers, numbers, entriesIn, records, messages, Left, counted, written}
+use Rattle.series.specs.Limits.{burstsAFrame}
+use Rattle.bwmap.specs.Limits.{planNumbers}
+use Rattle.series.specs.Series.{Series, entryAt, entryCount, standingsFrom, run, seriesAt, seriesOf, grants, wordsOf, endOf, judged, verdictOf, planned, lastEnd, carriedOver, plannedOf}
+use Rattle.plan.specs.Records.{mark}
+use Rattle.bwmap.specs.Plan.{moreNumbers, seriesNumbers, numbers, entriesIn, records, messages, Left, counted, written}
 use Rattle.bwmap.specs.Turns.{rest, Run, tally, Outcome, outcome, toCome, starting, Small}
 use Rattle.bwmap.specs.declared.Walk.{Walk}
-use Rattle.bwmap.specs.declared.Plan.{Plan}
-use Rattle.bwmap.specs.declared.Answer.{Answer}
 use Rattle.bwmap.specs.declared.Answer.the-variants.{Planned as PlannedAnswer}
+use Rattle.series.proofs.Runs.{run-length, series-drop}
+use Rattle.series.proofs.Judged.{planned-full}
 use Rattle.bwmap.proofs.Laws.{rest-cons, rest-nil}
 
 -- ---- lists
@@ -57,23 +54,6 @@ length-numbers (s ∷ l) =
 
 -- ---- a run, and what stands behind it
 
-pub run-length : (k : ℕ) (l : List Standing) → (length (run k l) ≤ length l) × (length (run k l) ≤ k)
-run-length zero l = (zero-le, zero-le)
-run-length (suc k) [] = (zero-le, zero-le)
-run-length (suc k) (Apart v ∷ l) = (zero-le, zero-le)
-run-length (suc k) (Head a ∷ l) = (zero-le, zero-le)
-run-length (suc k) (More a ∷ l) =
-    let ih = run-length k l in
-    (omega arith, omega arith)
-
--- what continues a series begins none
-series-drop : (k : ℕ) (l : List Standing) → seriesOf (drop (length (run k l)) l) ≡ seriesOf l
-series-drop zero l = refl
-series-drop (suc k) [] = refl
-series-drop (suc k) (Apart v ∷ l) = refl
-series-drop (suc k) (Head a ∷ l) = refl
-series-drop (suc k) (More a ∷ l) = series-drop k l
-
 module _ (own : Own) (m : List ℕ) where
   length-standings : (i j : ℕ) → length (standingsFrom own m i j) ≡ j
   length-standings i zero = refl
@@ -94,34 +74,6 @@ module _ (own : Own) (m : List ℕ) where
       let e : entryCount m - i - n ≡ entryCount m - (i + n) = omega arith in
       let d : drop n (rest own m i) ≡ rest own m (i + n) = drop-standings n i (entryCount m - i) ∙ ap (standingsFrom own m (i + n)) e in
       ap seriesOf (sym d) ∙ ap (λ (k : ℕ). seriesOf (drop k (rest own m i))) h ∙ series-drop 15 (rest own m i)
-
--- ---- the verdict on a series
-
-passes : (a b d : Bool) → isPlanned (cond a TooLong (cond b Overlapping (cond d AfterTheFourth Planned))) ≡ true → (a ≡ false) × (b ≡ false) × (d ≡ false)
-passes true b d h = absurd (false≢true h)
-passes false true d h = absurd (false≢true h)
-passes false false true h = absurd (false≢true h)
-passes false false false h = (refl, refl, refl)
-
-pub planned-facts : (e n start words : ℕ) → isPlanned (judged e n start words) ≡ true → (words ≤ wordsABurst) × (e ≤ start) × (n < burstsAFrame)
-unfolding judged
-planned-facts e n start words h =
-    let t = passes (ltb wordsABurst words) (ltb start e) (leb burstsAFrame n) h in
-    (ltb-false wordsABurst words (t .0), ltb-false start e (t .1), leb-false burstsAFrame n (t .2))
-
-full : (a b : Bool) → isPlanned (cond a TooLong (cond b Overlapping AfterTheFourth)) ≡ false
-full true b = refl
-full false true = refl
-full false false = refl
-
--- after the fourth nothing is planned
-pub no-fifth : (e n start words : ℕ) → burstsAFrame ≤ n → isPlanned (judged e n start words) ≡ false
-unfolding judged
-no-fifth e n start words h = rw (le-leb burstsAFrame n h) (full (ltb wordsABurst words) (ltb start e))
-
-pub planned-full : (e n : ℕ) (l : List Series) → burstsAFrame ≤ n → planned e n l ≡ []
-planned-full e n [] h = refl
-planned-full e n (s ∷ l) h = rw (no-fifth e n (s .head .start) (burstWords s) h) (planned-full e n l h)
 
 -- ---- an outcome, one burst at a time
 

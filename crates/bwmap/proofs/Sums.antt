@@ -23,8 +23,9 @@ use Rattle.xgtc.proofs.Layouts.{allocation-true, allocation-back}
 use Rattle.entries.specs.declared.Own.{Own}
 use Rattle.entries.specs.declared.Standing.{Standing}
 use Rattle.entries.specs.Standings.{standing, sorted, startUnfit, noRoom, continues, held}
-use Rattle.bwmap.specs.Series.{Series, entryAt, entryCount, standingsFrom, standings, seriesOf, planned, plannedOf, judged, wordsOf, lastEnd, carriedOver}
-use Rattle.bwmap.specs.Plan.{numbers, seriesNumbers, headFlags, moreFlags, burstFlags}
+use Rattle.series.specs.Series.{Series, entryAt, entryCount, standingsFrom, standings, seriesOf, planned, plannedOf, judged, wordsOf, lastEnd, carriedOver}
+use Rattle.plan.specs.Records.{headFlags, moreFlags, burstFlags}
+use Rattle.bwmap.specs.Plan.{numbers, seriesNumbers}
 use Rattle.bwmap.specs.Sums.{mapOf, five, grant, plan, carries, eight, Sum8, Sum9, Sum10, Sum11}
 
 module _ (a : Allocation) (fits : allocationFits a ≡ true) where

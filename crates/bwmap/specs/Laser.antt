@@ -7,7 +7,7 @@ use lib.Dec.{eqb}
 use lib.ListN.{take}
 use Rattle.xgtc.specs.declared.allocation.Allocation.{Allocation}
 use Rattle.bwmap.specs.Limits.{numbersARecord}
-use Rattle.bwmap.specs.Series.{Series}
+use Rattle.series.specs.Series.{Series}
 
 -- what is sent to one Alloc-ID
 pub record Grant : Type 0 where

@@ -1,5 +1,4 @@
 pub mod Limits
-pub mod Series
 pub mod Plan
 pub mod Promises
 pub mod Upstream

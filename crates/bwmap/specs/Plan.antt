@@ -1,39 +1,21 @@
 -- The plan: records of four numbers for each entry that is planned, and what is counted of them.
 -- Assumes nothing.
-use Prim.Native.Nat.{ℕ, suc, _+_, _*_}
+use Prim.Native.Nat.{ℕ, _+_}
 use mathlib.Core.Path.{_≡_}
-use mathlib.Core.Bool.{Bool, cond}
+use mathlib.Core.Bool.{cond}
 use mathlib.Core.List.{List, [], _∷_, _++_}
 use lib.Dec.{leb}
 use lib.ListN.{length, drop}
 use Rattle.xgtc.specs.declared.allocation.Allocation.{Allocation}
 use Rattle.entries.specs.declared.Own.{Own}
+use Rattle.plan.specs.Records.{mark, headFlags, moreFlags, planRecord}
 use Rattle.bwmap.specs.Limits.{planNumbers}
-use Rattle.bwmap.specs.Series.{Series, plannedOf, lastEnd, carriedOver}
+use Rattle.series.specs.Series.{Series, plannedOf, lastEnd, carriedOver}
 use Rattle.bwmap.specs.declared.Plan.{Plan}
 use Rattle.bwmap.specs.declared.Answer.{Answer}
 use Rattle.bwmap.specs.declared.Answer.the-variants.{Planned, PlanTooShort}
 
--- ---- "flags (head 1, head's PLOAMu 2, DBRu 4, FWI 8, profile times 16)"
-
-abbrev pub mark : Bool → ℕ → ℕ
-mark set weight = cond set weight 0
-
--- "FWI and profile are the head's throughout"
-unfoldable pub burstFlags : Allocation → ℕ
-burstFlags h = mark (h .fwi) 8 + h .profile * 16
-
-unfoldable pub headFlags : Allocation → ℕ
-headFlags h = 1 + mark (h .ploamu) 2 + mark (h .dbru) 4 + burstFlags h
-
--- "and flags 1 and 2 stand only on the head"
-unfoldable pub moreFlags : Allocation → Allocation → ℕ
-moreFlags h a = mark (a .dbru) 4 + burstFlags h
-
--- ---- "Plan record: Alloc-ID; flags; burst start; GrantSize"
-
-abbrev pub planRecord : Allocation → ℕ → ℕ → List ℕ
-planRecord a flags start = a .alloc .0 ∷ flags ∷ start ∷ a .grant ∷ []
+-- ---- the numbers of series
 
 abbrev pub moreNumbers : Allocation → List Allocation → List ℕ
 moreNumbers h [] = []

@@ -10,8 +10,8 @@ use Rattle.entries.specs.declared.Own.{Own}
 use Rattle.entries.specs.declared.Verdict.{Verdict}
 use Rattle.entries.specs.declared.Verdict.the-variants.{Planned, Unreadable, StartTimeUnfit, DbruWithoutRoom, Foreign, ContinuingNothing, Seventeenth, TooLong, Overlapping, AfterTheFourth, Silent}
 use Rattle.entries.specs.Standings.{Mine}
-use Rattle.bwmap.specs.Limits.{wordsABurst, burstsAFrame, entriesABurst}
-use Rattle.bwmap.specs.Series.{Series, entryAt, entryCount, burstWords, endOf}
+use Rattle.series.specs.Limits.{wordsABurst, burstsAFrame, entriesABurst}
+use Rattle.series.specs.Series.{Series, entryAt, entryCount, burstWords, endOf}
 
 -- ---- whose a series is
 

@@ -11,7 +11,7 @@ use Rattle.xgtc.specs.declared.allocation.Allocation.{Allocation}
 use Rattle.station.specs.declared.Activation.the-variants.{Operation}
 use Rattle.entries.specs.Limits.{structureOctets, continuing}
 use Rattle.entries.specs.declared.Own.{Own}
-use Rattle.bwmap.specs.Series.{plannedOf, lastEnd, carriedOver}
+use Rattle.series.specs.Series.{plannedOf, lastEnd, carriedOver}
 use Rattle.bwmap.specs.Plan.{numbers}
 
 -- the octets of a map

@@ -1,10 +1,9 @@
 -- What the turns of the walk's loops come to. Nothing public speaks of these.
 -- Assumes nothing.
-use mathlib.Core.Bool.{Bool, true, false, _&&_}
+use mathlib.Core.Bool.{true, false}
 use Prim.Native.Nat.{ℕ, zero, suc, _+_, _-_, _*_, _≤_, _<_}
 use mathlib.Core.Path.{_≡_}
 use mathlib.Core.List.{List, [], _∷_}
-use lib.Dec.{ltb, leb}
 use lib.ListN.{length}
 use lib.Seq.{sets}
 use Rattle.framing.specs.Reads.{Found, fields, unreadable, short}
@@ -13,12 +12,14 @@ use Rattle.entries.specs.declared.Own.{Own}
 use Rattle.entries.specs.declared.Standing.{Standing}
 use Rattle.entries.specs.declared.Standing.the-variants.{Head}
 use Rattle.entries.specs.Standings.{standing, isPlanned}
-use Rattle.bwmap.specs.Limits.{burstsAFrame, entriesABurst, numbersARecord}
-use Rattle.bwmap.specs.Series.{Series, entryAt, entryCount, standingsFrom, run, seriesOf, grants, wordsOf, judged, planned, lastEnd}
+use Rattle.series.specs.Limits.{burstsAFrame, entriesABurst}
+use Rattle.bwmap.specs.Limits.{numbersARecord}
+use Rattle.series.specs.Series.{Series, entryAt, entryCount, standingsFrom, run, seriesOf, grants, wordsOf, judged, planned, lastEnd}
 use Rattle.bwmap.specs.Plan.{numbers, records, messages}
-use Rattle.bwmap.specs.declared.series.Open.{Open}
-use Rattle.bwmap.specs.declared.series.Next.{Next}
-use Rattle.bwmap.specs.declared.series.Next.the-variants.{Until, Nowhere}
+use Rattle.series.specs.Opens.{closed}
+use Rattle.series.specs.declared.Open.{Open}
+use Rattle.bwmap.specs.declared.search.Next.{Next}
+use Rattle.bwmap.specs.declared.search.Next.the-variants.{Until, Nowhere}
 use Rattle.bwmap.specs.declared.Walk.{Walk}
 
 -- the entries from the i-th on
@@ -34,29 +35,6 @@ abbrev pub tally : ℕ → ℕ → List Allocation → Run
 tally k g l = record { count = k + length l; grants = g + grants l }
 
 -- ---- a series as it is read
-
-abbrev pub closed : Open
-closed = record { entries = 0; start = 0; words = 0 }
-
-abbrev pub opened : Allocation → Open
-opened h = record { entries = 1; start = h .start; words = wordsOf h 0 }
-
-abbrev pub joined : Open → Allocation → Open
-joined s a = record { entries = s .entries + 1; start = s .start; words = s .words + a .grant }
-
--- one is open, and has room for one more
-unfoldable pub goesOn : Open → Bool
-goesOn s = ltb 0 (s .entries) && leb (s .entries) (entriesABurst - 1)
-
--- one is open, and is planned as it ends
-unfoldable pub fits : ℕ → ℕ → Open → Bool
-fits e n s = ltb 0 (s .entries) && isPlanned (judged e n (s .start) (s .words))
-
--- its numbers stay small
-pub record Modest (s : Open) : Type 0 where
-  pub few : s .entries ≤ entriesABurst
-  pub start : s .start < 65536
-  pub words : s .words ≤ 65549 * s .entries
 
 -- the head of s stands at `at`, `from` or later, and what continues it is read up to the i-th entry
 pub record Running (own : Own) (m : List ℕ) (from i : ℕ) (s : Open) : Type 0 where

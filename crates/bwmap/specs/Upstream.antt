@@ -6,7 +6,7 @@ use mathlib.Core.Bool.{Bool, _&&_, cond}
 use lib.Dec.{ltb, leb}
 use Rattle.station.specs.Limits.{upstreamWords}
 use Rattle.entries.specs.declared.Own.{Own}
-use Rattle.bwmap.specs.Series.{Series, plannedOf, burstWords, lastEnd, carriedOver}
+use Rattle.series.specs.Series.{Series, plannedOf, burstWords, lastEnd, carriedOver}
 
 -- a frame time: without a plan (lost, or answered 4 or 5), or with what is ours and the map that arrived
 pub data FrameTime : Type 0 where

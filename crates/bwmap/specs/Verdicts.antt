@@ -12,8 +12,8 @@ use Rattle.entries.specs.declared.Verdict.the-variants.{ContinuingNothing, Seve
 use Rattle.entries.specs.declared.Standing.{Standing}
 use Rattle.entries.specs.declared.Standing.the-variants.{Apart, Head, More}
 use Rattle.entries.specs.Standings.{isPlanned}
-use Rattle.bwmap.specs.Limits.{entriesABurst}
-use Rattle.bwmap.specs.Series.{Series, entryAt, entryCount, standings, seriesAt, endOf, verdictOf}
+use Rattle.series.specs.Limits.{entriesABurst}
+use Rattle.series.specs.Series.{Series, entryAt, entryCount, standings, seriesAt, endOf, verdictOf}
 
 -- what an entry is among the others: alone, with its verdict; the head of a series; or one that goes a series on
 pub data Role : Type 0 where

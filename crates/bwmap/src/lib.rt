@@ -1,7 +1,7 @@
 // The walk over the bandwidth map (clause 8.1.2): the series of ours, which of them are planned, and the plan that the
 // laser obeys.
 mod records;
-mod series;
+mod search;
 
 use entries::Own;
 ghost use Prim.Native.Nat.{_+_, _*_, _≤_, _<_};
@@ -9,11 +9,11 @@ ghost use mathlib.Core.Path.{_≡_};
 ghost use lib.ListN.{length};
 ghost use mathlib.Core.List.{[]};
 ghost use Rattle.bwmap.specs.Limits.{planNumbers};
-ghost use Rattle.bwmap.specs.Series.{entryCount, carriedOver};
+ghost use Rattle.series.specs.Series.{entryCount, carriedOver};
 ghost use Rattle.bwmap.specs.Tables.{Tables};
 ghost use Rattle.bwmap.specs.Turns.{outcome, toCome, starting, Small};
 ghost use Rattle.bwmap.specs.Plan.{MapLeaves};
-use series::Next;
+use search::Next;
 
 // Numbers that a plan must have room for.
 pub const PLAN_NUMBERS: usize = 256;
@@ -71,7 +71,7 @@ fn turn(
     ensures { λ r. ⌜ Small r × (w .at < r .at) × (r .at ≤ entryCount (now (map .entry))) × (toCome own (now (map .entry)) (now (plan .exit)) r ≡ toCome own (now (map .entry)) (now (plan .entry)) w) ⌝ }
 {
     let last = w.end;
-    match series::next_planned(syndromes, flips, map, own, w.at, last, w.bursts) {
+    match search::next_planned(syndromes, flips, map, own, w.at, last, w.bursts) {
         Next::Until(next, s) => {
             let at = next - s.entries;
             let more = s.entries - 1;
@@ -87,7 +87,7 @@ fn turn(
             }
         }
         Next::Nowhere => Walk {
-            at: map.len() / series::STRUCTURE_OCTETS,
+            at: map.len() / search::STRUCTURE_OCTETS,
             records: w.records,
             bursts: w.bursts,
             messages: w.messages,
@@ -113,9 +113,9 @@ fn walk_map(
         records: 0,
         bursts: 0,
         messages: 0,
-        end: series::long(carried),
+        end: search::long(carried),
     };
-    let n = map.len() / series::STRUCTURE_OCTETS;
+    let n = map.len() / search::STRUCTURE_OCTETS;
     while w.at < n {
         if series::BURSTS_A_FRAME <= w.bursts {
             return w;
@@ -142,7 +142,7 @@ pub fn plan_map_by(
         return Answer::PlanTooShort;
     }
     if own.is_silent() {
-        let end = series::long(carried);
+        let end = search::long(carried);
         return Answer::Planned(Plan {
             records: 0,
             bursts: 0,

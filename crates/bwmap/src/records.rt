@@ -1,5 +1,7 @@
 // The records of a plan.
-use super::series;
+use super::search;
+use xgtc::allocation::Allocation;
+use xgtc::allocation::AllocationRead;
 use ids::AllocId;
 use xgtc::allocation::Allocation;
 use xgtc::allocation::AllocationRead;
@@ -8,10 +10,11 @@ ghost use mathlib.Core.Path.{_≡_};
 ghost use mathlib.Core.List.{_∷_, []};
 ghost use lib.ListN.{length};
 ghost use lib.Seq.{sets};
-ghost use Rattle.bwmap.specs.Series.{entryCount};
+ghost use Rattle.series.specs.Series.{entryCount};
 ghost use Rattle.bwmap.specs.Tables.{Tables};
 ghost use Rattle.bwmap.specs.Turns.{noAllocation, allocationAt, allocationsFrom};
-ghost use Rattle.bwmap.specs.Plan.{mark, burstFlags, headFlags, moreFlags, planRecord, moreNumbers, seriesNumbers};
+ghost use Rattle.plan.specs.Records.{mark, planRecord};
+ghost use Rattle.bwmap.specs.Plan.{moreNumbers, seriesNumbers};
 
 // Numbers of a record.
 pub(crate) const NUMBERS_A_RECORD: usize = 4;
@@ -20,30 +23,6 @@ pub(crate) fn mark(set: bool, weight: usize) -> usize
     ensures { λ r. ⌜ (r ≡ mark set weight) × (r ≤ weight) ⌝ }
 {
     if set { weight } else { 0 }
-}
-
-fn flag(set: bool, weight: u16) -> u16
-    ensures { λ r. ⌜ (r ≡ mark set weight) × (r ≤ weight) ⌝ }
-{
-    if set { weight } else { 0 }
-}
-
-fn burst_flags(h: Allocation) -> u16
-    ensures { λ r. ⌜ (r ≡ burstFlags h) × (r ≤ 4096) ⌝ }
-{
-    flag(h.fwi, 8) + h.profile as u16 * 16
-}
-
-fn head_flags(h: Allocation) -> u16
-    ensures { λ r. ⌜ r ≡ headFlags h ⌝ }
-{
-    1 + flag(h.ploamu, 2) + flag(h.dbru, 4) + burst_flags(h)
-}
-
-fn more_flags(h: Allocation, a: Allocation) -> u16
-    ensures { λ r. ⌜ r ≡ moreFlags h a ⌝ }
-{
-    flag(a.dbru, 4) + burst_flags(h)
 }
 
 fn no_allocation() -> Allocation
@@ -81,7 +60,7 @@ pub(crate) fn allocation_at(
     requires { ⌜ Tables (now syndromes) (now flips) × (i < entryCount (now map)) ⌝ }
     ensures { λ r. ⌜ r ≡ allocationAt (now (map .entry)) i ⌝ }
 {
-    let at = series::STRUCTURE_OCTETS * i;
+    let at = search::STRUCTURE_OCTETS * i;
     match xgtc::allocation::read_allocation_by(syndromes, flips, &map[at..]) {
         AllocationRead::Fields(a) => a,
         AllocationRead::Unreadable => no_allocation(),
@@ -110,7 +89,7 @@ fn write_more(
             plan,
             at + NUMBERS_A_RECORD * k,
             a,
-            more_flags(h, a),
+            plan::more_flags(h, a),
             h.start,
         );
         k += 1;
@@ -131,7 +110,7 @@ pub(crate) fn write_series(
     requires { ⌜ Tables (now syndromes) (now flips) × (from + count ≤ entryCount (now map)) × (at + 4 + 4 * count ≤ length (now plan)) ⌝ }
     ensures { λ r. ⌜ now (plan .exit) ≡ sets (now (plan .entry)) at (seriesNumbers (record { head = h; more = allocationsFrom (now (map .entry)) from count })) ⌝ }
 {
-    put(plan, at, h, head_flags(h), h.start);
+    put(plan, at, h, plan::head_flags(h), h.start);
     write_more(
         syndromes,
         flips,

@@ -16,8 +16,9 @@ use Rattle.xgtc.specs.Reads.{readHlend}
 use Rattle.station.specs.declared.answers.Answer.the-variants.{Done, StateOutOfRange, DelineationLost}
 use Rattle.station.specs.declared.Station.{Station}
 use Rattle.station.specs.Station.{powerOn}
-use Rattle.bwmap.specs.Series.{Series}
-use Rattle.bwmap.specs.Plan.{records, seriesNumbers, headFlags, burstFlags, written}
+use Rattle.series.specs.Series.{Series}
+use Rattle.plan.specs.Records.{headFlags, burstFlags}
+use Rattle.bwmap.specs.Plan.{records, seriesNumbers, written}
 use Rattle.bwmap.specs.Laser.{Sending, opens, granted, sending, laser}
 use Rattle.conduct.proofs.InRange.{sound-in-range, power-on-sound}
 use Rattle.ledger.proofs.Runs.{ledger-exact}

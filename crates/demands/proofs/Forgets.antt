@@ -28,7 +28,7 @@ use Rattle.ports.specs.Ports.{noPorts}
 use Rattle.ranges.specs.Ranges.{inRange, identityFits, allocsFit, portsFit, partialsFit, slotFits, partialFits}
 use Rattle.timing.specs.Timing.{frameEnd, lostState, lostTime, silence}
 use Rattle.entries.specs.Standings.{standing, sorted, startUnfit, noRoom, continues, held}
-use Rattle.bwmap.specs.Series.{Series, entryAt, standings, seriesOf, planned, wordsOf}
+use Rattle.series.specs.Series.{Series, entryAt, standings, seriesOf, planned, wordsOf}
 use Rattle.bwmap.specs.Plan.{records, written}
 use Rattle.bwmap.specs.Promises.{Account}
 use Rattle.bwmap.specs.Laser.{Sending, laser, burstsOf}

@@ -31,7 +31,7 @@ use Rattle.timing.specs.Timing.{lostTime}
 use Rattle.host.specs.declared.Outcome.{Outcome}
 use Rattle.host.specs.Host.{found, outcome, answerToAdd, answerToRemove, answerToKey, afterAdd, afterRemove, afterKey}
 use Rattle.payload.specs.Frames.{parse}
-use Rattle.payload.specs.Stretch.{stretchOf}
+use Rattle.stretches.specs.Stretch.{stretchOf}
 use Rattle.arrival.specs.Lengths.{lengthFits}
 use Rattle.arrival.specs.Partitions.{headerEnd, payloadOf}
 use Rattle.arrival.specs.Frame.{isOperating}

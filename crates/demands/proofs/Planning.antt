@@ -14,7 +14,7 @@ use Rattle.station.specs.declared.answers.Answer.{Answer}
 use Rattle.station.specs.declared.answers.Answer.the-variants.{Done, StateOutOfRange, FrameLengthUnfit, BufferTooShort, HlendUnreadable, HeaderTooLong, DelineationLost, PortOutOfRange, PortHeldOrNotHeld, SlotsTaken, KeyRefused, NotWritten}
 use Rattle.station.specs.States.{holdsIdentity}
 use Rattle.entries.specs.Standings.{Mine}
-use Rattle.bwmap.specs.Series.{Series, entryAt, plannedOf}
+use Rattle.series.specs.Series.{Series, entryAt, plannedOf}
 use Rattle.bwmap.specs.Plan.{records, written}
 use Rattle.bwmap.specs.Promises.{Follow, SeriesIn, Every}
 use Rattle.bwmap.specs.Laser.{Sending, laser, burstOf, burstsOf}

@@ -28,7 +28,7 @@ use Rattle.station.specs.Station.{powerOn, enter}
 use Rattle.ranges.specs.Ranges.{inRange}
 use Rattle.timing.specs.Timing.{frameEnd}
 use Rattle.payload.specs.Frames.{parse}
-use Rattle.bwmap.specs.Series.{Series, standings, seriesOf, burstWords, endOf}
+use Rattle.series.specs.Series.{Series, standings, seriesOf, burstWords, endOf}
 use Rattle.bwmap.specs.Promises.{Account, done as none-left, plans, too-long, overlapping, after-the-fourth}
 use Rattle.bwmap.specs.Laser.{Sending, burstsOf}
 use Rattle.conduct.proofs.InRange.{sound-in-range, power-on-sound, enter-sound}

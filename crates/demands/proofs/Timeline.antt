@@ -14,8 +14,8 @@ use Rattle.station.specs.Limits.{upstreamWords}
 use Rattle.station.specs.Station.{withPorts, withCarried}
 use Rattle.timing.specs.Timing.{silence, lostTime, unreadTime}
 use Rattle.activation.specs.Receiving.{receiveAll, messagesIn}
-use Rattle.bwmap.specs.Limits.{ploamuWords}
-use Rattle.bwmap.specs.Series.{Series, grants, wordsOf, burstWords, plannedOf, lastEnd, carriedOver}
+use Rattle.series.specs.Limits.{ploamuWords}
+use Rattle.series.specs.Series.{Series, grants, wordsOf, burstWords, plannedOf, lastEnd, carriedOver}
 use Rattle.bwmap.specs.Laser.{Sending, grantsOf, burstOf, burstsOf}
 use Rattle.bwmap.specs.Laser as read
 use Rattle.bwmap.specs.Upstream.{FrameTime, dark, Burst, carry, bursts, takers}

@@ -19,7 +19,7 @@ use Rattle.xgtc.specs.Reads.{readHlend}
 use Rattle.station.specs.declared.Station.{Station}
 use Rattle.station.specs.declared.answers.Answer.the-variants.{Done}
 use Rattle.entries.specs.Standings.{standing, sorted, startUnfit, noRoom, continues, discovery}
-use Rattle.bwmap.specs.Series.{Series, entryAt, standings, seriesOf, planned, judged, wordsOf}
+use Rattle.series.specs.Series.{Series, entryAt, standings, seriesOf, planned, judged, wordsOf}
 use Rattle.bwmap.specs.Promises.{Account}
 use Rattle.bwmap.specs.Laser.{burstsOf}
 use Rattle.arrival.specs.Lengths.{Lent, lengthFits, enough}

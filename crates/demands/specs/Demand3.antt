@@ -19,8 +19,8 @@ use Rattle.station.specs.declared.answers.Answer.the-variants.{Done, Delineatio
 use Rattle.station.specs.Limits.{upstreamWords}
 use Rattle.station.specs.States.{holdsIdentity}
 use Rattle.entries.specs.Standings.{silent}
-use Rattle.bwmap.specs.Limits.{ploamuWords}
-use Rattle.bwmap.specs.Series.{Series, standings, seriesOf}
+use Rattle.series.specs.Limits.{ploamuWords}
+use Rattle.series.specs.Series.{Series, standings, seriesOf}
 use Rattle.bwmap.specs.Promises.{SeriesIn, Account}
 use Rattle.bwmap.specs.Laser.{Grant, Sending, laser, burstOf, burstsOf}
 use Rattle.bwmap.specs.Upstream.{Burst, takers}

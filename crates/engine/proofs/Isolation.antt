@@ -24,7 +24,7 @@ use Rattle.payload.specs.Alike.{Alike}
 use Rattle.payload.specs.Memory.{Receiver}
 use Rattle.payload.specs.Walk.{Walked, walkOf}
 use Rattle.payload.proofs.Isolation.{isolated}
-use Rattle.bwmap.specs.Series.{Series, plannedOf}
+use Rattle.series.specs.Series.{Series, plannedOf}
 use Rattle.arrival.specs.Lengths.{Lent}
 use Rattle.arrival.specs.Partitions.{hlendOctets, mapEnd, headerEnd, mapOf, messagesOf, payloadOf}
 use Rattle.arrival.specs.Frame.{Left, isOperating, ownOf, plannedIn, repliesIn, payloadIn, sentBy, next, done, handled, byHlend, frameLeft}

@@ -23,7 +23,7 @@ use Rattle.activation.specs.Receiving.{receiveAll, messagesIn}
 use Rattle.activation.specs.Replying.{afterReply}
 use Rattle.replies.specs.Replies as replied
 use Rattle.replies.specs.Replies.{inPlace, repliesFrom}
-use Rattle.bwmap.specs.Series.{Series, plannedOf, lastEnd, carriedOver}
+use Rattle.series.specs.Series.{Series, plannedOf, lastEnd, carriedOver}
 use Rattle.bwmap.specs.Plan.{messages}
 use Rattle.bwmap.proofs.Kept.{carried-most}
 use Rattle.conduct.proofs.InRange.{Sound}

@@ -22,11 +22,11 @@ use Rattle.fragments.specs.declared.Effect.the-variants.{Nothing, Discard, Deli
 use Rattle.fragments.specs.Fragments.{effectOf}
 use Rattle.payload.specs.declared.frames.Next.{Next}
 use Rattle.payload.specs.declared.frames.Next.the-variants.{Done as NoMore, Lost, Frame}
-use Rattle.payload.specs.declared.alone.Extent.{Extent}
-use Rattle.payload.specs.declared.alone.StretchPlace as found
+use Rattle.stretches.specs.declared.Extent.{Extent}
+use Rattle.stretches.specs.declared.StretchPlace as found
 use Rattle.payload.specs.Frames.{Xgem, nextOf, parse}
 use Rattle.payload.specs.Memory.{after}
-use Rattle.payload.specs.Stretch.{noExtent, aloneAt, stretches, stretchOf, cutOut}
+use Rattle.stretches.specs.Stretch.{noExtent, aloneAt, stretches, stretchOf, cutOut}
 use Rattle.arrival.specs.Partitions.{headerEnd, payloadOf}
 use Rattle.arrival.specs.Frame.{isOperating}
 use Rattle.arrival.specs.Lengths.{lengthFits}

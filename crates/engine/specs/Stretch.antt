@@ -15,8 +15,8 @@ use Rattle.station.specs.declared.Station.{Station}
 use Rattle.station.specs.declared.answers.Answer.{Answer}
 use Rattle.station.specs.declared.answers.Answer.the-variants.{Done, StateOutOfRange, FrameLengthUnfit, HlendUnreadable, HeaderTooLong, DelineationLost}
 use Rattle.ranges.specs.Ranges.{inRange}
-use Rattle.payload.specs.declared.alone.StretchPlace as found
-use Rattle.payload.specs.Stretch.{stretchOf}
+use Rattle.stretches.specs.declared.StretchPlace as found
+use Rattle.stretches.specs.Stretch.{stretchOf}
 use Rattle.engine.specs.declared.alone.StretchPlace.{StretchPlace}
 use Rattle.arrival.specs.Lengths.{lengthFits}
 use Rattle.arrival.specs.Frame.{isOperating}

@@ -7,11 +7,11 @@ ghost use Rattle.arrival.specs.Partitions.{headerEnd};
 ghost use Rattle.engine.specs.Stretch.{empty, answerIf, placeIn, PlaceIs, StretchIs};
 use arrival::lengths;
 use arrival::partitions;
-use payload::Extent;
-use station::Station;
-use station::answers::Answer;
 use xgtc::hlend::Hlend;
 use xgtc::hlend::HlendRead;
+use station::Station;
+use station::answers::Answer;
+use stretches::Extent;
 
 // Where in the frame the stretch stands, and its length; the frame call's answer, without 3.
 pub struct StretchPlace {
@@ -51,7 +51,7 @@ fn place_in(s: Station, h: Hlend, frame: &[u8], k: usize) -> StretchPlace
     let link = s.link;
     let onu = link.onu;
     let ports = s.ports;
-    let p = payload::stretch_place(ports, onu.management_port(), &frame[end..], k);
+    let p = stretches::stretch_place(ports, onu.management_port(), &frame[end..], k);
     let t = p.stretch;
     let answer = answer_if(p.lost);
     if t.bytes == 0 {
@@ -91,7 +91,7 @@ pub fn stretch(s: Station, frame: &[u8], k: usize) -> &[u8]
     ensures { λ r. ⌜ StretchIs s (now (frame .entry)) k (now r) ⌝ }
 {
     let p = stretch_place(s, frame, k);
-    payload::stretch(
+    stretches::stretch(
         frame,
         Extent {
             at: p.at,

@@ -1,4 +1,4 @@
--- No second outcome meets the contract of a public function: for each, any two that do are equal, both lent buffers included.
+-- No second outcome meets the contract of `receive`: any two that do are equal, both lent buffers included.
 -- Assumes nothing.
 use mathlib.Core.Path.{_≡_, sym, ap, _∙_}
 use mathlib.Core.List.{List}
@@ -6,13 +6,9 @@ use Prim.Native.Nat.{ℕ}
 use Rattle.ids.specs.declared.PortId.{PortId}
 use Rattle.ports.specs.declared.Ports.{Ports}
 use Rattle.payload.specs.declared.walk.Received.{Received}
-use Rattle.payload.specs.declared.alone.Extent.{Extent}
-use Rattle.payload.specs.declared.alone.StretchPlace.{StretchPlace}
 use Rattle.payload.specs.Walk.{Walked, receiveOf}
-use Rattle.payload.specs.Stretch.{stretchOf, cutOut}
 use Rattle.payload.proofs.Fit.{walked}
 
--- receive
 pub receive-once : (p : Ports) (own : PortId) (memory deliveries : List ℕ) (place : ℕ) (payload : List ℕ) (a b : Received) (m n d e : List ℕ)
     → walked m d a ≡ receiveOf p own memory deliveries place payload → walked n e b ≡ receiveOf p own memory deliveries place payload
     → (a ≡ b) × (m ≡ n) × (d ≡ e)
@@ -22,10 +18,3 @@ receive-once p own memory deliveries place payload a b m n d e x y =
       ap (λ (w : Walked). w .receiver .memory) s,
       ap (λ (w : Walked). w .receiver .deliveries) s,
     )
-
--- stretch_place, stretch
-pub stretch-place-once : (own : PortId) (p : Ports) (payload : List ℕ) (k : ℕ) (a b : StretchPlace) → a ≡ stretchOf own p payload k → b ≡ stretchOf own p payload k → a ≡ b
-stretch-place-once own p payload k a b x y = x ∙ sym y
-
-pub stretch-once : (s : List ℕ) (t : Extent) (a b : List ℕ) → a ≡ cutOut s t → b ≡ cutOut s t → a ≡ b
-stretch-once s t a b x y = x ∙ sym y

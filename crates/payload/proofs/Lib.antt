@@ -4,9 +4,7 @@ pub mod Steps
 pub mod Reading
 pub mod Walks
 pub mod Fit
-pub mod Stretches
 pub mod Isolation
-pub mod OwnStretch
 pub mod Counts
 pub mod Reassembly
 pub mod Determined

@@ -1,7 +1,6 @@
 pub mod Frames
 pub mod Memory
 pub mod Walk
-pub mod Stretch
 pub mod Bounds
 pub mod Inside
 pub mod Alike

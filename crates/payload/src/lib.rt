@@ -1,13 +1,9 @@
 // The payload of a downstream frame (clauses 9.1 to 9.3): XGEM frames are walked, fragments put together, SDUs delivered.
-mod alone;
 mod frames;
 mod memory;
 mod walk;
 
-pub use alone::Extent;
-pub use alone::StretchPlace;
-pub use alone::stretch;
-pub use alone::stretch_place;
+pub use frames::Next;
 pub use walk::Delineation;
 pub use walk::MEMORY_BYTES;
 pub use walk::Received;

@@ -5,7 +5,7 @@ use native.Mathlib.Omega.{arith}
 use denote.Ref.{now}
 use lib.ListN.{length, take, drop, length-take, length-drop}
 use Rattle.bwmap.specs.Plan.{counted, written}
-use Rattle.bwmap.specs.Series.{plannedOf}
+use Rattle.series.specs.Series.{plannedOf}
 use Rattle.arrival.specs.Lengths.{Lent}
 use Rattle.arrival.specs.Partitions.{headerEnd}
 use Rattle.arrival.specs.Frame.{ownOf, walkedFrom}

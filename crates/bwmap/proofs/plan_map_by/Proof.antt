@@ -1,7 +1,7 @@
 use mathlib.Core.Path.{_∙_, sym}
 use borrow.Author.Tests.{lt-leb, le-leb}
 use denote.Ref.{now}
-use Rattle.bwmap.specs.Series.{plannedOf}
+use Rattle.series.specs.Series.{plannedOf}
 use Rattle.bwmap.proofs.Steps.{from-start, finish, silent-plan}
 use borrow.Author.Needs.{needs}
 use Rattle.bwmap.proofs.plan_map_by.Statement.{statement}
@@ -9,7 +9,7 @@ use Rattle.bwmap.proofs.plan_map_by.Tie as tie
 use Rattle.bwmap.proofs.plan_map_by.Reads as reads
 use Rattle.bwmap.proofs.plan_map_by.Lts as lts
 use Rattle.bwmap.proofs.carried_over.Reads as carried-over-reads
-use Rattle.bwmap.proofs.series.long.Reads as long-reads
+use Rattle.bwmap.proofs.search.long.Reads as long-reads
 use Rattle.bwmap.proofs.walk_map.Reads as walk-map-reads
 use Rattle.entries.proofs.Own.is_silent.Reads as is-silent-reads
 

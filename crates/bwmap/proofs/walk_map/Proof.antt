@@ -6,7 +6,7 @@ use native.Mathlib.Omega.{arith}
 use lib.ListN.{length}
 use denote.Ref.{now}
 use borrow.Author.Needs.{needs}
-use Rattle.bwmap.specs.Series.{entryCount}
+use Rattle.series.specs.Series.{entryCount}
 use Rattle.bwmap.specs.Turns.{toCome, starting, Small}
 use Rattle.bwmap.proofs.Steps.{walk-done, walk-full}
 use Rattle.bwmap.proofs.walk_map.Statement.{statement}

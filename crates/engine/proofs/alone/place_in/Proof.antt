@@ -19,7 +19,7 @@ use Rattle.engine.proofs.alone.empty.Reads as empty-reads
 use Rattle.arrival.proofs.is_operating.Reads as is-operating-reads
 use Rattle.arrival.proofs.partitions.header_end.Reads as header-end-reads
 use Rattle.ids.proofs.OnuId.management_port.Reads as management-port-reads
-use Rattle.payload.proofs.stretch_place.Reads as stretch-place-reads
+use Rattle.stretches.proofs.stretch_place.Reads as stretch-place-reads
 
 short : (c : tie.Start) → length (now (c .args .frame)) < 2 ^ 64
 short c = omega arith

@@ -9,7 +9,7 @@ use Rattle.engine.proofs.alone.stretch.Tie as tie
 use Rattle.engine.proofs.alone.stretch.Reads as reads
 use Rattle.engine.proofs.alone.stretch.Lts as lts
 use Rattle.engine.proofs.alone.stretch_place.Reads as stretch-place-reads
-use Rattle.payload.proofs.stretch.Reads as stretch-reads
+use Rattle.stretches.proofs.stretch.Reads as stretch-reads
 
 -- src/alone.rt:94:9
 stretch-place-requires : tie.Need-stretch-place-requires

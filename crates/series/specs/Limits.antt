@@ -1,0 +1,18 @@
+-- The numbers of the paper that bound a series.
+-- Assumes nothing.
+use Prim.Native.Nat.{ℕ}
+use Rattle.station.specs.Limits.{upstreamWords}
+
+-- "4 bursts a frame, 16 entries a burst, 9,720 words a burst"
+abbrev pub burstsAFrame : ℕ
+burstsAFrame = 4
+
+abbrev pub entriesABurst : ℕ
+entriesABurst = 16
+
+abbrev pub wordsABurst : ℕ
+wordsABurst = upstreamWords
+
+-- 8.2.2: the words of a PLOAMu, 48 octets
+abbrev pub ploamuWords : ℕ
+ploamuWords = 12
