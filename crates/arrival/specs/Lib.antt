@@ -1,4 +1,5 @@
 pub mod Limits
 pub mod Lengths
 pub mod Partitions
+pub mod Fitness
 pub mod Frame

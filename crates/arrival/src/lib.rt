@@ -15,11 +15,13 @@ ghost use Rattle.arrival.specs.Lengths.{lengthFits, buffersFit};
 ghost use Rattle.arrival.specs.Partitions.{headerEnd};
 ghost use Rattle.arrival.specs.Frame.{isOperating, isRanging, without, answerTo, planOf, ownOf, walkedFrom, handled, byHlend, FrameLeaves};
 
+mod fitness;
 pub mod lengths;
 pub mod partitions;
 
 use bwmap::Plan;
 use entries::Own;
+use fitness::Fitness;
 use payload::Delineation;
 use payload::Received;
 use station::Activation;
@@ -262,33 +264,28 @@ pub fn frame_by(
     requires { ⌜ Tables (now syndromes) (now flips) × (now mix ≡ mixTable) ⌝ }
     ensures { λ r. ⌜ FrameLeaves s (now (frame .entry)) delay (record { memory = now (memory .entry); plan = now (plan .entry); replies = now (replies .entry); deliveries = now (deliveries .entry) }) r (record { memory = now (memory .exit); plan = now (plan .exit); replies = now (replies .exit); deliveries = now (deliveries .exit) }) ⌝ }
 {
-    if !ranges::in_range(s) {
-        return without(Answer::StateOutOfRange, s);
-    }
-    if !lengths::length_fits(frame.len()) {
-        return without(Answer::FrameLengthUnfit, s);
-    }
-    if !lengths::enough(
+    match fitness::fitness_of(
+        s,
         frame.len(),
         memory.len(),
         plan.len(),
         replies.len(),
         deliveries.len(),
     ) {
-        return without(Answer::BufferTooShort, s);
+        Fitness::Refused(answer) => without(answer, s),
+        Fitness::Fit => by_hlend(
+            syndromes,
+            flips,
+            mix,
+            s,
+            memory,
+            frame,
+            delay,
+            plan,
+            replies,
+            deliveries,
+        ),
     }
-    by_hlend(
-        syndromes,
-        flips,
-        mix,
-        s,
-        memory,
-        frame,
-        delay,
-        plan,
-        replies,
-        deliveries,
-    )
 }
 
 // The same by tables that are named here, once the call is fit: a refused one copies none.
@@ -303,34 +300,31 @@ pub fn frame(
 ) -> Outcome
     ensures { λ r. ⌜ FrameLeaves s (now (frame .entry)) delay (record { memory = now (memory .entry); plan = now (plan .entry); replies = now (replies .entry); deliveries = now (deliveries .entry) }) r (record { memory = now (memory .exit); plan = now (plan .exit); replies = now (replies .exit); deliveries = now (deliveries .exit) }) ⌝ }
 {
-    if !ranges::in_range(s) {
-        return without(Answer::StateOutOfRange, s);
-    }
-    if !lengths::length_fits(frame.len()) {
-        return without(Answer::FrameLengthUnfit, s);
-    }
-    if !lengths::enough(
+    match fitness::fitness_of(
+        s,
         frame.len(),
         memory.len(),
         plan.len(),
         replies.len(),
         deliveries.len(),
     ) {
-        return without(Answer::BufferTooShort, s);
+        Fitness::Refused(answer) => without(answer, s),
+        Fitness::Fit => {
+            let syndromes = bch::syndromes::table();
+            let flips = bch::flips::table();
+            let mix = aes::table::MIX;
+            by_hlend(
+                &syndromes,
+                &flips,
+                &mix,
+                s,
+                memory,
+                frame,
+                delay,
+                plan,
+                replies,
+                deliveries,
+            )
+        }
     }
-    let syndromes = bch::syndromes::table();
-    let flips = bch::flips::table();
-    let mix = aes::table::MIX;
-    by_hlend(
-        &syndromes,
-        &flips,
-        &mix,
-        s,
-        memory,
-        frame,
-        delay,
-        plan,
-        replies,
-        deliveries,
-    )
 }

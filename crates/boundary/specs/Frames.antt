@@ -13,7 +13,7 @@ use Rattle.station.specs.Answers.{answerNumber}
 use Rattle.arrival.specs.declared.Outcome.{Outcome}
 use Rattle.engine.specs.declared.alone.StretchPlace.{StretchPlace}
 use Rattle.arrival.specs.Lengths.{Lent}
-use Rattle.engine.specs.Frame as engine
+use Rattle.arrival.specs.Frame as engine
 use Rattle.arrival.specs.Frame.{frameLeft}
 use Rattle.engine.specs.Stretch.{stretchPlace}
 use Rattle.layout.specs.Layout.{decoded, stored}

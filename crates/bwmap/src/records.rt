@@ -1,7 +1,5 @@
 // The records of a plan.
 use super::search;
-use xgtc::allocation::Allocation;
-use xgtc::allocation::AllocationRead;
 use ids::AllocId;
 use xgtc::allocation::Allocation;
 use xgtc::allocation::AllocationRead;

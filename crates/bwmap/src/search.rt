@@ -1,8 +1,8 @@
 // The search for the next series of a map that is planned.
 use entries::Own;
 use entries::Standing;
-use xgtc::allocation::Allocation;
 use series::Open;
+use xgtc::allocation::Allocation;
 ghost use Prim.Native.Nat.{_≤_, _<_};
 ghost use mathlib.Core.Path.{_≡_};
 ghost use mathlib.Core.Bool.{true};

@@ -7,11 +7,11 @@ ghost use Rattle.arrival.specs.Partitions.{headerEnd};
 ghost use Rattle.engine.specs.Stretch.{empty, answerIf, placeIn, PlaceIs, StretchIs};
 use arrival::lengths;
 use arrival::partitions;
-use xgtc::hlend::Hlend;
-use xgtc::hlend::HlendRead;
 use station::Station;
 use station::answers::Answer;
 use stretches::Extent;
+use xgtc::hlend::Hlend;
+use xgtc::hlend::HlendRead;
 
 // Where in the frame the stretch stands, and its length; the frame call's answer, without 3.
 pub struct StretchPlace {

@@ -1,3 +1,5 @@
+-- `arrival::by_hlend` meets its contract.
+-- Assumes nothing.
 use mathlib.Core.Path.{_≡_, _∙_, sym, ap}
 use native.Mathlib.Omega.{arith}
 use borrow.Author.Tests.{lt-leb, le-leb}
@@ -9,13 +11,6 @@ use Rattle.arrival.specs.Partitions.{headerEnd}
 use borrow.Author.Needs.{needs}
 use Rattle.arrival.proofs.by_hlend.Statement.{statement}
 use Rattle.arrival.proofs.by_hlend.Tie as tie
-use Rattle.arrival.proofs.by_hlend.Reads as reads
-use Rattle.arrival.proofs.by_hlend.Lts as lts
-use Rattle.arrival.proofs.handle.Reads as handle-reads
-use Rattle.arrival.proofs.without.Reads as without-reads
-use Rattle.arrival.proofs.partitions.header_end.Reads as header-end-reads
-use Rattle.xgtc.proofs.hlend.read_hlend_by.Reads as read-hlend-by-reads
-use Rattle.timing.proofs.unread_time.Reads as unread-time-reads
 
 -- the lent tables are the true ones
 read : (c : tie.After-read-hlend-by) → foundHlend (c .read-hlend-by .result) ≡ readHlend (now (c .before .before .before .before .before .before .args .frame))
@@ -25,83 +20,63 @@ read c =
     c .read-hlend-by .ensures
     ∙ lent-hlend (now (a .syndromes)) (now (a .flips)) (tables .octets) (tables .repairs) (now (a .frame)) (λ i. omega (arith, c .before .before .before .before .shared-slice-known .given i))
 
--- src/arrival.rt:221:11
 read-hlend-by-requires : tie.Need-read-hlend-by-requires
 read-hlend-by-requires c κs = search needs
 
--- src/arrival.rt:222:27
 enum-known-h : tie.Need-enum-known-h
 enum-known-h c = search needs
 
--- src/arrival.rt:223:30
 header-end-requires : tie.Need-header-end-requires
 header-end-requires c κs = search needs
 
--- src/arrival.rt:224:55
 unread-time-requires : tie.Need-unread-time-requires
 unread-time-requires c κs = search needs
 
--- src/arrival.rt:224:17
 without-requires : tie.Need-without-requires
 without-requires c κs = search needs
 
--- src/arrival.rt:224:17
 returns : tie.Need-returns
 returns c = rw (sym (read (c .before .before .before .before .before .before .before)) ∙ ap foundHlend (c .before .before .before .before .before .h .given .1), lt-leb (headerEnd (c .before .before .before .before .before .h .given .0 .0)) (length (now ((c .before .before .before .before .before .before .before .before .before .before .before .before .before) .args .frame))) (omega (arith, c .before .before .before .header-end .ensures, c .before .before .if1 .taken)), c .without .ensures, c .before .unread-time .ensures)
 
--- src/arrival.rt:226:13
 handle-requires : tie.Need-handle-requires
 handle-requires c κs = search needs
 
--- src/arrival.rt:240:42
 enum-told : tie.Need-enum-told
 enum-told c = search needs
 
--- src/arrival.rt:240:67
 unread-time-requires-2 : tie.Need-unread-time-requires-2
 unread-time-requires-2 c κs = search needs
 
--- src/arrival.rt:240:34
 without-requires-2 : tie.Need-without-requires-2
 without-requires-2 c κs = search needs
 
--- src/arrival.rt:241:37
 enum-told-2 : tie.Need-enum-told-2
 enum-told-2 c = search needs
 
--- src/arrival.rt:241:62
 unread-time-requires-3 : tie.Need-unread-time-requires-3
 unread-time-requires-3 c κs = search needs
 
--- src/arrival.rt:241:29
 without-requires-3 : tie.Need-without-requires-3
 without-requires-3 c κs = search needs
 
--- src/arrival.rt:206:1
 same-length : tie.Need-same-length
 same-length c = search needs
 
--- src/arrival.rt:206:1
 same-length-2 : tie.Need-same-length-2
 same-length-2 c = search needs
 
--- src/arrival.rt:206:1
 same-length-3 : tie.Need-same-length-3
 same-length-3 c = search needs
 
--- src/arrival.rt:206:1
 same-length-4 : tie.Need-same-length-4
 same-length-4 c = search needs
 
--- src/arrival.rt:206:1
 returns-2 : tie.Need-returns-2
 returns-2 c = rw (sym (read (c .before .before .before .before .before .before .before .before .before .before .before .before .before .before .before .before .before .before)) ∙ ap foundHlend (c .before .before .before .before .before .before .before .before .before .before .before .before .before .before .before .before .h .given .1), le-leb (headerEnd (c .before .before .before .before .before .before .before .before .before .before .before .before .before .before .before .before .h .given .0 .0)) (length (now ((c .before .before .before .before .before .before .before .before .before .before .before .before .before .before .before .before .before .before .before .before .before .before .before .before) .args .frame))) (omega (arith, c .before .before .before .before .before .before .before .before .before .before .before .before .before .before .header-end .ensures, c .before .before .before .before .before .before .before .before .before .before .before .before .before .if1 .left))) (c .before .before .before .before .before .before .before .before .handle .ensures)
 
--- src/arrival.rt:206:1
 returns-3 : tie.Need-returns-3
 returns-3 c = rw (sym (read (c .before .before .before .before)) ∙ ap foundHlend (c .before .before .enum-told .given .1), c .without2 .ensures, c .before .unread-time2 .ensures)
 
--- src/arrival.rt:206:1
 returns-4 : tie.Need-returns-4
 returns-4 c = rw (sym (read (c .before .before .before .before)) ∙ ap foundHlend (c .before .before .enum-told2 .given .1), c .without3 .ensures, c .before .unread-time3 .ensures)
 

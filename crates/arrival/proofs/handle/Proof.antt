@@ -1,3 +1,5 @@
+-- `arrival::handle` meets its contract.
+-- Assumes nothing.
 use mathlib.Core.Path.{_≡_, _∙_, sym, ap}
 use Prim.Native.Nat.{ℕ, _-_}
 use mathlib.Core.List.{List}
@@ -13,19 +15,6 @@ use Rattle.arrival.proofs.Laws.{Room, room, map-part, messages-part, pa
 use borrow.Author.Needs.{needs}
 use Rattle.arrival.proofs.handle.Statement.{statement}
 use Rattle.arrival.proofs.handle.Tie as tie
-use Rattle.arrival.proofs.handle.Reads as reads
-use Rattle.arrival.proofs.handle.Lts as lts
-use Rattle.activation.proofs.receive_all_by.Reads as receive-all-by-reads
-use Rattle.arrival.proofs.answer_to.Reads as answer-to-reads
-use Rattle.arrival.proofs.is_ranging.Reads as is-ranging-reads
-use Rattle.arrival.proofs.plan_bursts.Reads as plan-bursts-reads
-use Rattle.arrival.proofs.receive_payload.Reads as receive-payload-reads
-use Rattle.arrival.proofs.partitions.header_end.Reads as header-end-reads
-use Rattle.arrival.proofs.partitions.map_end.Reads as map-end-reads
-use Rattle.replies.proofs.reply_all_by.Reads as reply-all-by-reads
-use Rattle.station.proofs.Station.with_carried.Reads as with-carried-reads
-use Rattle.station.proofs.Station.with_ports.Reads as with-ports-reads
-use Rattle.timing.proofs.frame_end.Reads as frame-end-reads
 
 abbrev buffers : tie.Start → Lent
 buffers c = record { memory = now (c .args .memory); plan = now (c .args .plan); replies = now (c .args .replies); deliveries = now (c .args .deliveries) }
@@ -33,106 +22,81 @@ buffers c = record { memory = now (c .args .memory); plan = now (c .args .plan);
 fitting : (c : tie.Start) → Room (length (now (c .args .frame))) (buffers c)
 fitting c = room (length (now (c .args .frame))) (buffers c) (c .pre .4)
 
--- src/arrival.rt:179:9
 map-end-requires : tie.Need-map-end-requires
 map-end-requires c κs = search needs
 
--- src/arrival.rt:180:9
 header-end-requires : tie.Need-header-end-requires
 header-end-requires c κs = search needs
 
--- src/arrival.rt:185:9
 sub-plan-bursts : tie.Need-sub-plan-bursts
 sub-plan-bursts c = search needs
 
--- src/arrival.rt:185:9
 part-plan-bursts-start : tie.Need-part-plan-bursts-start
 part-plan-bursts-start c = search needs
 
--- src/arrival.rt:185:9
 part-plan-bursts-end : tie.Need-part-plan-bursts-end
 part-plan-bursts-end c = search needs
 
--- src/arrival.rt:181:9
 plan-bursts-requires : tie.Need-plan-bursts-requires
 plan-bursts-requires c κs = ((c .before .before .before .before .before .before .before .before .before) .pre .0, fitting (c .before .before .before .before .before .before .before .before .before) .plan)
 
--- src/arrival.rt:188:9
 reply-all-by-requires : tie.Need-reply-all-by-requires
 reply-all-by-requires c κs = search needs
 
--- src/arrival.rt:189:55
 sub-receive-payload : tie.Need-sub-receive-payload
 sub-receive-payload c = omega (arith, c .before .before .before .before .before .before .before .before .before .header-end .ensures, (c .before .before .before .before .before .before .before .before .before .before .before .before .before .before .before .before) .pre .3)
 
--- src/arrival.rt:189:55
 part-receive-payload-start : tie.Need-part-receive-payload-start
 part-receive-payload-start c = omega (arith, c .before .before .before .before .before .before .before .before .before .header-end .ensures, (c .before .before .before .before .before .before .before .before .before .before .before .before .before .before .before .before) .pre .3)
 
--- src/arrival.rt:189:55
 part-receive-payload-end : tie.Need-part-receive-payload-end
 part-receive-payload-end c = search needs
 
--- src/arrival.rt:189:9
 receive-payload-requires : tie.Need-receive-payload-requires
 receive-payload-requires c κs =
     let f = now ((c .before .before .before .before .before .before .before .before .before .before .before .before .before .before .before .before .before .before .before) .args .frame) in
     let e = c .before .before .before .before .before .before .before .before .before .before .before .before .header-end .result in
     ((c .before .before .before .before .before .before .before .before .before .before .before .before .before .before .before .before .before .before .before) .pre .0, (c .before .before .before .before .before .before .before .before .before .before .before .before .before .before .before .before .before .before .before) .pre .2, fitting (c .before .before .before .before .before .before .before .before .before .before .before .before .before .before .before .before .before .before .before) .memory, omega (arith, fitting (c .before .before .before .before .before .before .before .before .before .before .before .before .before .before .before .before .before .before .before) .deliveries, length-take (length f - e) (drop e f), length-drop e f))
 
--- src/arrival.rt:191:17
 with-ports-requires : tie.Need-with-ports-requires
 with-ports-requires c κs = search needs
 
--- src/arrival.rt:191:9
 with-carried-requires : tie.Need-with-carried-requires
 with-carried-requires c κs = search needs
 
--- src/arrival.rt:192:56
 sub-receive-all-by : tie.Need-sub-receive-all-by
 sub-receive-all-by c = omega (arith, c .before .before .before .before .before .before .before .before .before .before .before .before .before .before .before .before .before .before .before .before .before .map-end .ensures, c .before .before .before .before .before .before .before .before .before .before .before .before .before .before .before .before .before .before .before .before .header-end .ensures)
 
--- src/arrival.rt:192:56
 part-receive-all-by-start : tie.Need-part-receive-all-by-start
 part-receive-all-by-start c = omega (arith, c .before .before .before .before .before .before .before .before .before .before .before .before .before .before .before .before .before .before .before .before .before .map-end .ensures, c .before .before .before .before .before .before .before .before .before .before .before .before .before .before .before .before .before .before .before .before .header-end .ensures)
 
--- src/arrival.rt:192:56
 part-receive-all-by-end : tie.Need-part-receive-all-by-end
 part-receive-all-by-end c = omega (arith, c .before .before .before .before .before .before .before .before .before .before .before .before .before .before .before .before .before .before .before .before .before .map-end .ensures, c .before .before .before .before .before .before .before .before .before .before .before .before .before .before .before .before .before .before .before .before .header-end .ensures, (c .before .before .before .before .before .before .before .before .before .before .before .before .before .before .before .before .before .before .before .before .before .before .before .before .before .before .before) .pre .3)
 
--- src/arrival.rt:192:9
 receive-all-by-requires : tie.Need-receive-all-by-requires
 receive-all-by-requires c κs = (c .before .before .before .before .before .before .before .before .before .before .before .before .before .before .before .before .before .before .before .before .before .before .before .before .before .before .before .before) .pre .1
 
--- src/arrival.rt:194:42
 is-ranging-requires : tie.Need-is-ranging-requires
 is-ranging-requires c κs = search needs
 
--- src/arrival.rt:194:9
 frame-end-requires : tie.Need-frame-end-requires
 frame-end-requires c κs = search needs
 
--- src/arrival.rt:197:17
 answer-to-requires : tie.Need-answer-to-requires
 answer-to-requires c κs = search needs
 
--- src/arrival.rt:163:1
 same-length : tie.Need-same-length
 same-length c = c .before .before .before .before .before .before .before .before .before .before .before .memory .given
 
--- src/arrival.rt:163:1
 same-length-2 : tie.Need-same-length-2
 same-length-2 c = c .before .before .before .before .before .before .before .before .before .before .before .before .before .before .before .before .before .before .before .before .before .plan .given
 
--- src/arrival.rt:163:1
 same-length-3 : tie.Need-same-length-3
 same-length-3 c = c .before .before .before .before .before .before .before .before .before .before .before .before .before .before .before .before .before .replies .given
 
--- src/arrival.rt:163:1
 same-length-4 : tie.Need-same-length-4
 same-length-4 c = search needs
 
--- src/arrival.rt:163:1
 returns : tie.Need-returns
 returns c =
     let a = (c .before .before .before .before .before .before .before .before .before .before .before .before .before .before .before .before .before .before .before .before .before .before .before .before .before .before .before .before .before .before .before .before) .args in

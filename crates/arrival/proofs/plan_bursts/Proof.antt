@@ -1,3 +1,5 @@
+-- `arrival::plan_bursts` meets its contract.
+-- Assumes nothing.
 use mathlib.Core.Path.{_∙_}
 use denote.Ref.{now}
 use Rattle.arrival.specs.Frame.{ownOf}
@@ -5,24 +7,16 @@ use Rattle.arrival.proofs.Laws.{planned-fully}
 use borrow.Author.Needs.{needs}
 use Rattle.arrival.proofs.plan_bursts.Statement.{statement}
 use Rattle.arrival.proofs.plan_bursts.Tie as tie
-use Rattle.arrival.proofs.plan_bursts.Reads as reads
-use Rattle.arrival.proofs.plan_bursts.Lts as lts
-use Rattle.bwmap.proofs.plan_map_by.Reads as plan-map-by-reads
-use Rattle.arrival.proofs.plan_of.Reads as plan-of-reads
 
--- src/arrival.rt:121:13
 plan-map-by-requires : tie.Need-plan-map-by-requires
 plan-map-by-requires c κs = search needs
 
--- src/arrival.rt:121:5
 plan-of-requires : tie.Need-plan-of-requires
 plan-of-requires c κs = search needs
 
--- src/arrival.rt:101:1
 same-length : tie.Need-same-length
 same-length c = search needs
 
--- src/arrival.rt:101:1
 returns : tie.Need-returns
 returns c =
     let a = (c .before .before .before .before .before .before .before .before .before .before) .args in

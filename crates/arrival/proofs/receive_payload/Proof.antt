@@ -1,3 +1,5 @@
+-- `arrival::receive_payload` meets its contract.
+-- Assumes nothing.
 use mathlib.Core.Path.{_≡_, _∙_, sym}
 use borrow.Author.Tests.{not-true, not-false}
 use denote.Ref.{now}
@@ -7,40 +9,28 @@ use Rattle.arrival.proofs.Laws.{payload-received}
 use borrow.Author.Needs.{needs}
 use Rattle.arrival.proofs.receive_payload.Statement.{statement}
 use Rattle.arrival.proofs.receive_payload.Tie as tie
-use Rattle.arrival.proofs.receive_payload.Reads as reads
-use Rattle.arrival.proofs.receive_payload.Lts as lts
-use Rattle.arrival.proofs.is_operating.Reads as is-operating-reads
-use Rattle.ids.proofs.OnuId.management_port.Reads as management-port-reads
-use Rattle.payload.proofs.receive_by.Reads as receive-by-reads
 
 long : (c : tie.Start) → length (c .args .s .ports .lengths) ≡ slots
 long c = search needs
 
--- src/arrival.rt:141:9
 is-operating-requires : tie.Need-is-operating-requires
 is-operating-requires c κs = search needs
 
--- src/arrival.rt:142:9
 returns : tie.Need-returns
 returns c = rw (sym (c .before .is-operating .ensures) ∙ not-true _ (c .if1 .taken))
 
--- src/arrival.rt:154:9
 management-port-requires : tie.Need-management-port-requires
 management-port-requires c κs = search needs
 
--- src/arrival.rt:150:5
 receive-by-requires : tie.Need-receive-by-requires
 receive-by-requires c κs = search needs
 
--- src/arrival.rt:127:1
 same-length : tie.Need-same-length
 same-length c = search needs
 
--- src/arrival.rt:127:1
 same-length-2 : tie.Need-same-length-2
 same-length-2 c = search needs
 
--- src/arrival.rt:127:1
 returns-2 : tie.Need-returns-2
 returns-2 c =
     let a = (c .before .before .before .before .before .before .before .before .before .before .before .before .before .before .before .before) .args in

@@ -1,3 +1,5 @@
+-- `trace::finish` meets its contract.
+-- Assumes nothing.
 use borrow.Author.Needs.{needs}
 use native.Mathlib.Omega.{arith}
 use Rattle.trace.proofs.finish.Statement.{statement}

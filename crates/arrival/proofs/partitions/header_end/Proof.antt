@@ -1,30 +1,24 @@
+-- `arrival::partitions::header_end` meets its contract.
+-- Assumes nothing.
 use mathlib.Core.Path.{_∙_, ap}
 use Prim.Native.Nat.{ℕ, _+_, _*_}
 use native.Mathlib.Omega.{arith}
 use borrow.Author.Needs.{needs}
 use Rattle.arrival.proofs.partitions.header_end.Statement.{statement}
 use Rattle.arrival.proofs.partitions.header_end.Tie as tie
-use Rattle.arrival.proofs.partitions.header_end.Reads as reads
-use Rattle.arrival.proofs.partitions.header_end.Lts as lts
-use Rattle.arrival.proofs.partitions.map_end.Reads as map-end-reads
 
--- src/partitions.rt:21:5
 map-end-requires : tie.Need-map-end-requires
 map-end-requires c κs = search needs
 
--- src/partitions.rt:21:35
 cast-result : tie.Need-cast-result
 cast-result c = search needs
 
--- src/partitions.rt:21:18
 mul-result : tie.Need-mul-result
 mul-result c = search needs
 
--- src/partitions.rt:21:5
 add-result : tie.Need-add-result
 add-result c = search needs
 
--- src/partitions.rt:18:1
 returns : tie.Need-returns
 returns c = ap (λ (n : ℕ). n + 48 * (c .before .before .args .h .ploam)) (c .before .map-end .ensures)
 

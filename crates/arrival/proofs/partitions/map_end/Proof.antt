@@ -16,7 +16,6 @@ add-result : tie.Need-add-result
 add-result c = search needs
 
 returns : tie.Need-returns
-unfolding mapEnd
 returns c = refl
 
 pub map-end-spec : {M : Type 1} → statement M

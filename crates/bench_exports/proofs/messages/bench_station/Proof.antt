@@ -1,3 +1,5 @@
+-- `bench_exports::messages::bench_station` meets its contract.
+-- Assumes nothing.
 use mathlib.Core.Path.{_≡_, ap, _∙_}
 use lib.ListN.{replicate}
 use Rattle.station.specs.declared.Station.{Station}
@@ -8,43 +10,28 @@ use Rattle.station.specs.Station.{powerOn, withLink, withActivation}
 use borrow.Author.Needs.{needs}
 use Rattle.bench_exports.proofs.messages.bench_station.Statement.{statement}
 use Rattle.bench_exports.proofs.messages.bench_station.Tie as tie
-use Rattle.bench_exports.proofs.messages.bench_station.Reads as reads
-use Rattle.bench_exports.proofs.messages.bench_station.Lts as lts
-use Rattle.station.proofs.Station.power_on.Reads as power-on-reads
-use Rattle.station.proofs.Station.with_activation.Reads as with-activation-reads
-use Rattle.station.proofs.Station.with_link.Reads as with-link-reads
-use Rattle.link.proofs.Link.nothing.Reads as nothing-reads
-use Rattle.link.proofs.Link.with_key.Reads as with-key-reads
-use Rattle.link.proofs.Link.with_onu.Reads as with-onu-reads
 
 linked : {a b : Station} → {k l : Link} → a ≡ b → k ≡ l → withLink a k ≡ withLink b l
 linked {a} {b} {k} {l} p q = ap (λ (s : Station). withLink s k) p ∙ ap (λ (m : Link). withLink b m) q
 
--- src/messages.rt:18:16
 nothing-requires : tie.Need-nothing-requires
 nothing-requires c κs = search needs
 
--- src/messages.rt:18:16
 with-onu-requires : tie.Need-with-onu-requires
 with-onu-requires c κs = search needs
 
--- src/messages.rt:18:9
 with-key-requires : tie.Need-with-key-requires
 with-key-requires c κs = search needs
 
--- src/messages.rt:19:5
 power-on-requires : tie.Need-power-on-requires
 power-on-requires c κs = search needs
 
--- src/messages.rt:19:5
 with-link-requires : tie.Need-with-link-requires
 with-link-requires c κs = search needs
 
--- src/messages.rt:19:5
 with-activation-requires : tie.Need-with-activation-requires
 with-activation-requires c κs = search needs
 
--- src/messages.rt:11:1
 returns : tie.Need-returns
 returns c =
     let l = c .before .before .before .with-key .ensures ∙ ap (λ (l : Link). withKey l (installed (replicate 16 9))) (c .before .before .before .before .with-onu .ensures ∙ ap (λ (l : Link). withOnu l (record { 0 = 5 })) (c .before .before .before .before .before .nothing .ensures)) in

@@ -1,3 +1,5 @@
+-- `engine::alone::place_in` meets its contract.
+-- Assumes nothing.
 use mathlib.Core.Path.{_≡_, _∙_, sym, ap}
 use Prim.Native.Nat.{_<_, _^_}
 use native.Mathlib.Omega.{arith}
@@ -12,64 +14,44 @@ use Rattle.engine.proofs.Stretches.{placed, placed-inside}
 use borrow.Author.Needs.{needs}
 use Rattle.engine.proofs.alone.place_in.Statement.{statement}
 use Rattle.engine.proofs.alone.place_in.Tie as tie
-use Rattle.engine.proofs.alone.place_in.Reads as reads
-use Rattle.engine.proofs.alone.place_in.Lts as lts
-use Rattle.engine.proofs.alone.answer_if.Reads as answer-if-reads
-use Rattle.engine.proofs.alone.empty.Reads as empty-reads
-use Rattle.arrival.proofs.is_operating.Reads as is-operating-reads
-use Rattle.arrival.proofs.partitions.header_end.Reads as header-end-reads
-use Rattle.ids.proofs.OnuId.management_port.Reads as management-port-reads
-use Rattle.stretches.proofs.stretch_place.Reads as stretch-place-reads
 
 short : (c : tie.Start) → length (now (c .args .frame)) < 2 ^ 64
 short c = omega arith
 
--- src/alone.rt:48:9
 is-operating-requires : tie.Need-is-operating-requires
 is-operating-requires c κs = search needs
 
--- src/alone.rt:49:9
 empty-requires : tie.Need-empty-requires
 empty-requires c κs = search needs
 
--- src/alone.rt:49:9
 returns : tie.Need-returns
 unfolding placeIn
 returns c = rw (sym (c .before .before .is-operating .ensures) ∙ not-true _ (c .before .if1 .taken)) (c .empty .ensures)
 
--- src/alone.rt:51:9
 header-end-requires : tie.Need-header-end-requires
 header-end-requires c κs = search needs
 
--- src/alone.rt:55:43
 management-port-requires : tie.Need-management-port-requires
 management-port-requires c κs = search needs
 
--- src/alone.rt:55:66
 sub-stretch-place : tie.Need-sub-stretch-place
 sub-stretch-place c = search needs
 
--- src/alone.rt:55:66
 part-stretch-place-start : tie.Need-part-stretch-place-start
 part-stretch-place-start c = search needs
 
--- src/alone.rt:55:66
 part-stretch-place-end : tie.Need-part-stretch-place-end
 part-stretch-place-end c = search needs
 
--- src/alone.rt:55:9
 stretch-place-requires : tie.Need-stretch-place-requires
 stretch-place-requires c κs = search needs
 
--- src/alone.rt:57:9
 answer-if-requires : tie.Need-answer-if-requires
 answer-if-requires c κs = search needs
 
--- src/alone.rt:59:9
 empty-requires-2 : tie.Need-empty-requires-2
 empty-requires-2 c κs = search needs
 
--- src/alone.rt:59:9
 returns-2 : tie.Need-returns-2
 returns-2 c =
     let a = c .before .before .before .before .before .before .before .before .before .before .before .before .before .before .before .args in
@@ -78,7 +60,6 @@ returns-2 c =
     let law = placed (a .s) (a .h) f (a .k) (c .before .before .before .before .before .before .before .management-port .result) _ (c .before .before .before .before .before .stretch-place .result) (sym (c .before .before .before .before .before .before .before .before .before .before .before .before .before .is-operating .ensures) ∙ not-false _ (c .before .before .before .before .before .before .before .before .before .before .before .before .if1 .left)) (c .before .before .before .before .before .before .before .management-port .ensures) e (c .before .before .before .before .before .stretch-place .ensures) in
     c .empty2 .ensures ∙ rw (c .before .before .before .answer-if .ensures) (sym (law ∙ rw (eq-eqb (c .before .before .before .before .before .stretch-place .result .stretch .bytes) 0 (c .before .if2 .taken))))
 
--- src/alone.rt:63:13
 add-t18 : tie.Need-add-t18
 add-t18 c =
     let a = c .before .before .before .before .before .before .before .before .before .before .before .before .before .before .before .args in
@@ -87,7 +68,6 @@ add-t18 c =
     let i = placed-inside (a .s) (a .h) f (a .k) (c .before .before .before .before .before .before .before .management-port .result) _ (c .before .before .before .before .before .stretch-place .result) e (c .before .before .before .before .before .before .before .before .before .before .before .before .before .before .before .pre) (c .before .before .before .before .before .stretch-place .ensures) in
     omega (arith, i, c .before .before .before .before .before .before .before .before .before .before .before .header-end .ensures, short (c .before .before .before .before .before .before .before .before .before .before .before .before .before .before .before))
 
--- src/alone.rt:43:1
 returns-3 : tie.Need-returns-3
 returns-3 c =
     let a = c .before .before .before .before .before .before .before .before .before .before .before .before .before .before .before .args in

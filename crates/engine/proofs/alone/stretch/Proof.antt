@@ -1,3 +1,5 @@
+-- `engine::alone::stretch` meets its contract.
+-- Assumes nothing.
 use mathlib.Core.Path.{_≡_, _∙_, sym, ap}
 use denote.Ref.{now}
 use Rattle.engine.specs.Stretch.{cut, stretchPlace}
@@ -6,20 +8,13 @@ use Rattle.engine.proofs.Stretches.{cut-fully}
 use borrow.Author.Needs.{needs}
 use Rattle.engine.proofs.alone.stretch.Statement.{statement}
 use Rattle.engine.proofs.alone.stretch.Tie as tie
-use Rattle.engine.proofs.alone.stretch.Reads as reads
-use Rattle.engine.proofs.alone.stretch.Lts as lts
-use Rattle.engine.proofs.alone.stretch_place.Reads as stretch-place-reads
-use Rattle.stretches.proofs.stretch.Reads as stretch-reads
 
--- src/alone.rt:94:9
 stretch-place-requires : tie.Need-stretch-place-requires
 stretch-place-requires c κs = search needs
 
--- src/alone.rt:95:5
 stretch-requires : tie.Need-stretch-requires
 stretch-requires c κs = search needs
 
--- src/alone.rt:91:1
 returns : tie.Need-returns
 returns c =
     let a = c .before .before .before .args in

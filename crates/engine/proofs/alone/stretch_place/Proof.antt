@@ -1,3 +1,5 @@
+-- `engine::alone::stretch_place` meets its contract.
+-- Assumes nothing.
 use mathlib.Core.Path.{_≡_, _∙_, sym, ap}
 use native.Mathlib.Omega.{arith}
 use borrow.Author.Tests.{not-true, not-false, lt-leb, le-leb}
@@ -9,93 +11,66 @@ use Rattle.engine.specs.Stretch.{stretchPlace}
 use borrow.Author.Needs.{needs}
 use Rattle.engine.proofs.alone.stretch_place.Statement.{statement}
 use Rattle.engine.proofs.alone.stretch_place.Tie as tie
-use Rattle.engine.proofs.alone.stretch_place.Reads as reads
-use Rattle.engine.proofs.alone.stretch_place.Lts as lts
-use Rattle.engine.proofs.alone.empty.Reads as empty-reads
-use Rattle.engine.proofs.alone.place_in.Reads as place-in-reads
-use Rattle.arrival.proofs.lengths.length_fits.Reads as length-fits-reads
-use Rattle.arrival.proofs.partitions.header_end.Reads as header-end-reads
-use Rattle.xgtc.proofs.hlend.read_hlend.Reads as read-hlend-reads
-use Rattle.ranges.proofs.in_range.Reads as in-range-reads
 
--- src/alone.rt:72:9
 in-range-requires : tie.Need-in-range-requires
 in-range-requires c κs = search needs
 
--- src/alone.rt:73:9
 empty-requires : tie.Need-empty-requires
 empty-requires c κs = search needs
 
--- src/alone.rt:73:9
 returns : tie.Need-returns
 unfolding stretchPlace
 returns c = rw (sym (c .before .before .in-range .ensures) ∙ not-true _ (c .before .if1 .taken)) (c .empty .ensures)
 
--- src/alone.rt:75:9
 length-fits-requires : tie.Need-length-fits-requires
 length-fits-requires c κs = search needs
 
--- src/alone.rt:76:9
 empty-requires-2 : tie.Need-empty-requires-2
 empty-requires-2 c κs = search needs
 
--- src/alone.rt:76:9
 returns-2 : tie.Need-returns-2
 unfolding stretchPlace
 returns-2 c = rw (sym (c .before .before .before .before .in-range .ensures) ∙ not-false _ (c .before .before .before .if1 .left), sym (c .before .before .length-fits .ensures) ∙ not-true _ (c .before .if2 .taken)) (c .empty2 .ensures)
 
--- src/alone.rt:78:11
 read-hlend-requires : tie.Need-read-hlend-requires
 read-hlend-requires c κs = search needs
 
--- src/alone.rt:79:27
 enum-known-h : tie.Need-enum-known-h
 enum-known-h c = search needs
 
--- src/alone.rt:80:30
 header-end-requires : tie.Need-header-end-requires
 header-end-requires c κs = search needs
 
--- src/alone.rt:81:17
 empty-requires-3 : tie.Need-empty-requires-3
 empty-requires-3 c κs = search needs
 
--- src/alone.rt:81:17
 returns-3 : tie.Need-returns-3
 unfolding stretchPlace
 returns-3 c = rw (sym (c .before .before .before .before .before .before .before .before .before .before .in-range .ensures) ∙ not-false _ (c .before .before .before .before .before .before .before .before .before .if1 .left), sym (c .before .before .before .before .before .before .before .before .length-fits .ensures) ∙ not-false _ (c .before .before .before .before .before .before .before .if2 .left), sym (c .before .before .before .before .before .before .read-hlend .ensures) ∙ ap foundHlend (c .before .before .before .before .h .given .1), lt-leb (headerEnd (c .before .before .before .before .h .given .0 .0)) (length (now (c .before .before .before .before .before .before .before .before .before .before .before .before .args .frame))) (omega (arith, c .before .before .header-end .ensures, c .before .if3 .taken))) (c .empty3 .ensures)
 
--- src/alone.rt:83:13
 place-in-requires : tie.Need-place-in-requires
 place-in-requires c κs = search needs
 
--- src/alone.rt:85:40
 enum-told : tie.Need-enum-told
 enum-told c = search needs
 
--- src/alone.rt:85:34
 empty-requires-4 : tie.Need-empty-requires-4
 empty-requires-4 c κs = search needs
 
--- src/alone.rt:86:35
 enum-told-2 : tie.Need-enum-told-2
 enum-told-2 c = search needs
 
--- src/alone.rt:86:29
 empty-requires-5 : tie.Need-empty-requires-5
 empty-requires-5 c κs = search needs
 
--- src/alone.rt:69:1
 returns-4 : tie.Need-returns-4
 unfolding stretchPlace
 returns-4 c = rw (sym (c .before .before .before .before .before .before .before .before .before .before .in-range .ensures) ∙ not-false _ (c .before .before .before .before .before .before .before .before .before .if1 .left), sym (c .before .before .before .before .before .before .before .before .length-fits .ensures) ∙ not-false _ (c .before .before .before .before .before .before .before .if2 .left), sym (c .before .before .before .before .before .before .read-hlend .ensures) ∙ ap foundHlend (c .before .before .before .before .h .given .1), le-leb (headerEnd (c .before .before .before .before .h .given .0 .0)) (length (now (c .before .before .before .before .before .before .before .before .before .before .before .before .args .frame))) (omega (arith, c .before .before .header-end .ensures, c .before .if3 .left))) (c .place-in .ensures)
 
--- src/alone.rt:69:1
 returns-5 : tie.Need-returns-5
 unfolding stretchPlace
 returns-5 c = rw (sym (c .before .before .before .before .before .before .before .in-range .ensures) ∙ not-false _ (c .before .before .before .before .before .before .if1 .left), sym (c .before .before .before .before .before .length-fits .ensures) ∙ not-false _ (c .before .before .before .before .if2 .left), sym (c .before .before .before .read-hlend .ensures) ∙ ap foundHlend (c .before .enum-told .given .1)) (c .empty4 .ensures)
 
--- src/alone.rt:69:1
 returns-6 : tie.Need-returns-6
 unfolding stretchPlace
 returns-6 c = rw (sym (c .before .before .before .before .before .before .before .in-range .ensures) ∙ not-false _ (c .before .before .before .before .before .before .if1 .left), sym (c .before .before .before .before .before .length-fits .ensures) ∙ not-false _ (c .before .before .before .before .if2 .left), sym (c .before .before .before .read-hlend .ensures) ∙ ap foundHlend (c .before .enum-told2 .given .1)) (c .empty5 .ensures)

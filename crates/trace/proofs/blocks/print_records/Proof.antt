@@ -1,3 +1,5 @@
+-- `trace::blocks::print_records` meets its contract.
+-- Assumes nothing.
 use mathlib.Core.Path.{_≡_, refl, _∙_}
 use mathlib.Core.List.{List}
 use Prim.Native.Nat.{ℕ, _*_, _-_, _≤_}
@@ -9,9 +11,6 @@ use Rattle.trace.specs.Runs.{Shown}
 use Rattle.trace.proofs.OneByOne.{shownFrom, block-start, block-turn, block-end}
 use Rattle.trace.proofs.blocks.print_records.Statement.{statement}
 use Rattle.trace.proofs.blocks.print_records.Tie as tie
-use Rattle.trace.proofs.blocks.print_records.Reads as reads
-use Rattle.trace.proofs.blocks.print_records.Lts as lts
-use Rattle.trace.proofs.records.print_record.Reads as print-record-reads
 
 abbrev showing : Printed → List ℕ → List ℕ → List ℕ → List ℕ → List ℕ → Shown
 showing p memory plan replies deliveries text =
@@ -37,46 +36,36 @@ Inv-loop syndromes flips mix input count memory₀ plan₀ replies₀ deliveries
 abbrev μ-loop : tie.MeasureT-loop
 μ-loop syndromes flips mix input count memory₀ plan₀ replies₀ deliveries₀ text₀ p₀ i₀ memory plan replies deliveries text p i = count - i
 
--- src/blocks.rt:35:5
 loop-holds : tie.Need-loop-holds Inv-loop μ-loop
 loop-holds c =
     let a = c .before .before .before .before .before .before .args in
     let s = showing (record { run = a .run; place = 0 }) (a .memory .now) (a .plan .now) (a .replies .now) (a .deliveries .now) (a .text .now) in
     (omega arith, omega arith, block-start (a .input .now) (a .count) s, refl, refl, refl, refl, refl)
 
--- src/blocks.rt:36:20
 mul-from : tie.Need-mul-from Inv-loop μ-loop
 mul-from c = omega (arith, c .loop-test .taken, c .before .before .before .before .before .before .before .before .pre .2)
 
--- src/blocks.rt:37:18
 add-to : tie.Need-add-to Inv-loop μ-loop
 add-to c = omega (arith, c .loop-test .taken, c .before .before .before .before .before .before .before .before .pre .2)
 
--- src/blocks.rt:41:13
 sub-print-record : tie.Need-sub-print-record Inv-loop μ-loop
 sub-print-record c = omega (arith, c .before .loop-test .taken, c .before .before .before .before .before .before .before .before .before .pre .2)
 
--- src/blocks.rt:41:13
 part-print-record-start : tie.Need-part-print-record-start Inv-loop μ-loop
 part-print-record-start c = omega (arith, c .before .loop-test .taken, c .before .before .before .before .before .before .before .before .before .pre .2)
 
--- src/blocks.rt:41:13
 part-print-record-end : tie.Need-part-print-record-end Inv-loop μ-loop
 part-print-record-end c = omega (arith, c .before .loop-test .taken, c .before .before .before .before .before .before .before .before .before .pre .2)
 
--- src/blocks.rt:39:9
 print-record-requires : tie.Need-print-record-requires Inv-loop μ-loop
 print-record-requires c κs = (c .before .before .before .before .before .before .before .before .before .before .before .before .before .before .before .pre .0, c .before .before .before .before .before .before .before .before .before .before .before .before .before .before .before .pre .1, omega (arith, c .before .before .before .before .before .before .before .before .loop .inv .1, c .before .before .before .before .before .before .before .before .loop .inv .7, c .before .before .before .before .before .before .before .before .before .before .before .before .before .before .before .pre .3, c .before .before .before .before .before .before .before .loop-test .taken))
 
--- src/blocks.rt:49:9
 add-i : tie.Need-add-i Inv-loop μ-loop
 add-i c = omega (arith, c .before .before .before .before .before .before .before .before .before .before .before .before .before .before .before .before .before .before .loop-test .taken, c .before .before .before .before .before .before .before .before .before .before .before .before .before .before .before .before .before .before .before .before .before .before .before .before .before .before .fits .count .fits)
 
--- src/blocks.rt:35:5
 loop-less : tie.Need-loop-less Inv-loop μ-loop
 loop-less c = omega (arith, c .before .before .before .before .before .before .before .before .before .before .before .before .before .before .before .before .before .before .loop-test .taken, c .before .before .before .before .before .before .before .before .before .before .before .before .before .before .before .before .before .before .before .before .before .before .before .before .before .before .pre .2)
 
--- src/blocks.rt:35:5
 loop-again : tie.Need-loop-again Inv-loop μ-loop
 loop-again c =
     let l = c .before .before .before .before .before .before .before .before .before .before .before .before .before .before .before .before .before .before .before .loop in
@@ -91,27 +80,21 @@ loop-again c =
       k .1 .1 .1 .1 .1 .1 .1 .1 .1 .0 ∙ l .inv .7,
     )
 
--- src/blocks.rt:20:1
 same-length : tie.Need-same-length Inv-loop μ-loop
 same-length c = c .before .loop .inv .3
 
--- src/blocks.rt:20:1
 same-length-2 : tie.Need-same-length-2 Inv-loop μ-loop
 same-length-2 c = c .before .loop .inv .4
 
--- src/blocks.rt:20:1
 same-length-3 : tie.Need-same-length-3 Inv-loop μ-loop
 same-length-3 c = c .before .loop .inv .5
 
--- src/blocks.rt:20:1
 same-length-4 : tie.Need-same-length-4 Inv-loop μ-loop
 same-length-4 c = c .before .loop .inv .6
 
--- src/blocks.rt:20:1
 same-length-5 : tie.Need-same-length-5 Inv-loop μ-loop
 same-length-5 c = c .before .loop .inv .7
 
--- src/blocks.rt:20:1
 returns : tie.Need-returns Inv-loop μ-loop
 returns c =
     let l = c .before .loop in (

@@ -1,3 +1,5 @@
+-- `trace::blocks::turn` meets its contract.
+-- Assumes nothing.
 use borrow.Author.Needs.{needs}
 use mathlib.Core.Path.{_∙_}
 use native.Mathlib.Omega.{arith}
@@ -5,52 +7,37 @@ use Rattle.trace.specs.Runs.{At, Shown}
 use Rattle.trace.proofs.Turns.{turned-made}
 use Rattle.trace.proofs.blocks.turn.Statement.{statement}
 use Rattle.trace.proofs.blocks.turn.Tie as tie
-use Rattle.trace.proofs.blocks.turn.Reads as reads
-use Rattle.trace.proofs.blocks.turn.Lts as lts
-use Rattle.trace.proofs.blocks.move_to_front.Reads as move-to-front-reads
-use Rattle.trace.proofs.blocks.print_records.Reads as print-records-reads
 
--- src/blocks.rt:82:16
 mul-used : tie.Need-mul-used
 mul-used c = omega (arith, c .before .before .before .before .before .before .pre .2, c .before .before .before .before .before .before .fits .filled .fits)
 
--- src/blocks.rt:83:9
 print-records-requires : tie.Need-print-records-requires
 print-records-requires c κs = (c .before .before .before .before .before .before .before .before .before .before .before .before .pre .0, c .before .before .before .before .before .before .before .before .before .before .before .before .pre .1, omega (arith, c .before .before .before .before .before .before .before .before .before .before .before .before .pre .2), c .before .before .before .before .before .before .before .before .before .before .before .before .pre .3)
 
--- src/blocks.rt:84:5
 move-to-front-requires : tie.Need-move-to-front-requires
 move-to-front-requires c κs = (omega arith, c .before .before .before .before .before .before .before .before .before .before .before .before .before .before .before .before .before .before .before .before .before .before .before .before .pre .2)
 
--- src/blocks.rt:88:15
 sub-t31 : tie.Need-sub-t31
 sub-t31 c = omega arith
 
--- src/blocks.rt:68:1
 same-length : tie.Need-same-length
 same-length c = c .before .before .before .move-to-front .kept .0
 
--- src/blocks.rt:68:1
 same-length-2 : tie.Need-same-length-2
 same-length-2 c = c .before .before .before .before .before .before .before .before .before .before .before .before .before .before .before .print-records .kept .1 .1 .1 .1 .1 .1 .0
 
--- src/blocks.rt:68:1
 same-length-3 : tie.Need-same-length-3
 same-length-3 c = c .before .before .before .before .before .before .before .before .before .before .before .before .before .before .before .print-records .kept .1 .1 .1 .1 .1 .1 .1 .0
 
--- src/blocks.rt:68:1
 same-length-4 : tie.Need-same-length-4
 same-length-4 c = c .before .before .before .before .before .before .before .before .before .before .before .before .before .before .before .print-records .kept .1 .1 .1 .1 .1 .1 .1 .1 .0
 
--- src/blocks.rt:68:1
 same-length-5 : tie.Need-same-length-5
 same-length-5 c = c .before .before .before .before .before .before .before .before .before .before .before .before .before .before .before .print-records .kept .1 .1 .1 .1 .1 .1 .1 .1 .1 .0
 
--- src/blocks.rt:68:1
 same-length-6 : tie.Need-same-length-6
 same-length-6 c = c .before .before .before .before .before .before .before .before .before .before .before .before .before .before .before .print-records .kept .1 .1 .1 .1 .1 .1 .1 .1 .1 .1 .0
 
--- src/blocks.rt:68:1
 returns : tie.Need-returns
 returns c =
     let a = c .before .before .before .before .before .before .before .before .before .before .before .before .before .before .before .before .before .before .before .before .before .before .before .before .before .before .before .before .args in

@@ -1,54 +1,42 @@
+-- `trace::lines::put_bad` meets its contract.
+-- Assumes nothing.
 use native.Mathlib.Omega.{arith}
 use lib.ListN.{length, length-set}
 use Rattle.trace.proofs.Decimals.{field-within}
 use Rattle.trace.proofs.LineParts.{bad-put, bad-within, length-bad}
 use Rattle.trace.proofs.lines.put_bad.Statement.{statement}
 use Rattle.trace.proofs.lines.put_bad.Tie as tie
-use Rattle.trace.proofs.lines.put_bad.Reads as reads
-use Rattle.trace.proofs.lines.put_bad.Lts as lts
-use Rattle.trace.proofs.lines.put_field.Reads as put-field-reads
 
--- src/lines.rt:64:9
 put-field-requires : tie.Need-put-field-requires
 put-field-requires c κs = omega (arith, c .before .before .pre, field-within (c .before .before .args .number) 32 (c .before .before .fits .number .fits))
 
--- src/lines.rt:65:5
 slice-write-text : tie.Need-slice-write-text
 slice-write-text c = omega (arith, c .before .before .before .before .before .pre, field-within (c .before .before .before .before .before .args .number) 32 (c .before .before .before .before .before .fits .number .fits), c .before .before .put-field .ensures .1, c .before .before .put-field .kept .1 .1 .0)
 
--- src/lines.rt:66:10
 add-text : tie.Need-add-text
 add-text c = omega (arith, c .before .before .before .before .before .pre, field-within (c .before .before .before .before .before .args .number) 32 (c .before .before .before .before .before .fits .number .fits), c .before .before .put-field .ensures .1, c .before .before .put-field .kept .1 .1 .0)
 
--- src/lines.rt:66:5
 slice-write-text-2 : tie.Need-slice-write-text-2
 slice-write-text-2 c = simp length-set (omega (arith, c .before .before .before .before .before .pre, field-within (c .before .before .before .before .before .args .number) 32 (c .before .before .before .before .before .fits .number .fits), c .before .before .put-field .ensures .1, c .before .before .put-field .kept .1 .1 .0))
 
--- src/lines.rt:67:10
 add-text-2 : tie.Need-add-text-2
 add-text-2 c = omega (arith, c .before .before .before .before .before .pre, field-within (c .before .before .before .before .before .args .number) 32 (c .before .before .before .before .before .fits .number .fits), c .before .before .put-field .ensures .1, c .before .before .put-field .kept .1 .1 .0)
 
--- src/lines.rt:67:5
 slice-write-text-3 : tie.Need-slice-write-text-3
 slice-write-text-3 c = simp length-set (omega (arith, c .before .before .before .before .before .pre, field-within (c .before .before .before .before .before .args .number) 32 (c .before .before .before .before .before .fits .number .fits), c .before .before .put-field .ensures .1, c .before .before .put-field .kept .1 .1 .0))
 
--- src/lines.rt:68:10
 add-text-3 : tie.Need-add-text-3
 add-text-3 c = omega (arith, c .before .before .before .before .before .pre, field-within (c .before .before .before .before .before .args .number) 32 (c .before .before .before .before .before .fits .number .fits), c .before .before .put-field .ensures .1, c .before .before .put-field .kept .1 .1 .0)
 
--- src/lines.rt:68:5
 slice-write-text-4 : tie.Need-slice-write-text-4
 slice-write-text-4 c = simp length-set (omega (arith, c .before .before .before .before .before .pre, field-within (c .before .before .before .before .before .args .number) 32 (c .before .before .before .before .before .fits .number .fits), c .before .before .put-field .ensures .1, c .before .before .put-field .kept .1 .1 .0))
 
--- src/lines.rt:69:5
 add-result : tie.Need-add-result
 add-result c = omega (arith, c .before .before .before .before .before .pre, field-within (c .before .before .before .before .before .args .number) 32 (c .before .before .before .before .before .fits .number .fits), c .before .before .put-field .ensures .1, c .before .before .put-field .kept .1 .1 .0)
 
--- src/lines.rt:60:1
 same-length : tie.Need-same-length
 same-length c = simp length-set (c .before .before .put-field .kept .1 .1 .0)
 
--- src/lines.rt:60:1
 returns : tie.Need-returns
 returns c =
     let a = c .before .before .before .before .before .args in

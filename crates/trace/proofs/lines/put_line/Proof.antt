@@ -1,3 +1,5 @@
+-- `trace::lines::put_line` meets its contract.
+-- Assumes nothing.
 use mathlib.Core.Path.{_∙_}
 use Prim.Native.Nat.{_≤_}
 use lib.ListN.{length}
@@ -7,9 +9,6 @@ use Rattle.trace.proofs.Decimals.{field-within}
 use Rattle.trace.proofs.LineParts.{line-put, line-within}
 use Rattle.trace.proofs.lines.put_line.Statement.{statement}
 use Rattle.trace.proofs.lines.put_line.Tie as tie
-use Rattle.trace.proofs.lines.put_line.Reads as reads
-use Rattle.trace.proofs.lines.put_line.Lts as lts
-use Rattle.trace.proofs.lines.put_field.Reads as put-field-reads
 
 -- no number is longer than 64 bits
 within
@@ -29,35 +28,27 @@ within c = (
   field-within (c .args .bytes) 10 (c .fits .bytes .fits),
 )
 
--- src/lines.rt:51:9
 put-field-requires : tie.Need-put-field-requires
 put-field-requires c κs = omega (arith, c .before .before .pre, within (c .before .before))
 
--- src/lines.rt:52:9
 put-field-requires-2 : tie.Need-put-field-requires-2
 put-field-requires-2 c κs = omega (arith, c .before .before .before .before .before .before .pre, within (c .before .before .before .before .before .before), c .before .before .before .put-field .ensures .1, c .before .before .before .put-field .kept .1 .1 .0)
 
--- src/lines.rt:53:9
 put-field-requires-3 : tie.Need-put-field-requires-3
 put-field-requires-3 c κs = omega (arith, c .before .before .before .before .before .before .before .before .before .before .pre, within (c .before .before .before .before .before .before .before .before .before .before), c .before .before .before .before .before .before .before .put-field .ensures .1, c .before .before .before .before .before .before .before .put-field .kept .1 .1 .0, c .before .before .before .put-field2 .ensures .1, c .before .before .before .put-field2 .kept .1 .1 .0)
 
--- src/lines.rt:54:9
 put-field-requires-4 : tie.Need-put-field-requires-4
 put-field-requires-4 c κs = omega (arith, c .before .before .before .before .before .before .before .before .before .before .before .before .before .before .pre, within (c .before .before .before .before .before .before .before .before .before .before .before .before .before .before), c .before .before .before .before .before .before .before .before .before .before .before .put-field .ensures .1, c .before .before .before .before .before .before .before .before .before .before .before .put-field .kept .1 .1 .0, c .before .before .before .before .before .before .before .put-field2 .ensures .1, c .before .before .before .before .before .before .before .put-field2 .kept .1 .1 .0, c .before .before .before .put-field3 .ensures .1, c .before .before .before .put-field3 .kept .1 .1 .0)
 
--- src/lines.rt:55:9
 put-field-requires-5 : tie.Need-put-field-requires-5
 put-field-requires-5 c κs = omega (arith, c .before .before .before .before .before .before .before .before .before .before .before .before .before .before .before .before .before .before .pre, within (c .before .before .before .before .before .before .before .before .before .before .before .before .before .before .before .before .before .before), c .before .before .before .before .before .before .before .before .before .before .before .before .before .before .before .put-field .ensures .1, c .before .before .before .before .before .before .before .before .before .before .before .before .before .before .before .put-field .kept .1 .1 .0, c .before .before .before .before .before .before .before .before .before .before .before .put-field2 .ensures .1, c .before .before .before .before .before .before .before .before .before .before .before .put-field2 .kept .1 .1 .0, c .before .before .before .before .before .before .before .put-field3 .ensures .1, c .before .before .before .before .before .before .before .put-field3 .kept .1 .1 .0, c .before .before .before .put-field4 .ensures .1, c .before .before .before .put-field4 .kept .1 .1 .0)
 
--- src/lines.rt:56:5
 put-field-requires-6 : tie.Need-put-field-requires-6
 put-field-requires-6 c κs = omega (arith, c .before .before .before .before .before .before .before .before .before .before .before .before .before .before .before .before .before .before .before .before .before .before .pre, within (c .before .before .before .before .before .before .before .before .before .before .before .before .before .before .before .before .before .before .before .before .before .before), c .before .before .before .before .before .before .before .before .before .before .before .before .before .before .before .before .before .before .before .put-field .ensures .1, c .before .before .before .before .before .before .before .before .before .before .before .before .before .before .before .before .before .before .before .put-field .kept .1 .1 .0, c .before .before .before .before .before .before .before .before .before .before .before .before .before .before .before .put-field2 .ensures .1, c .before .before .before .before .before .before .before .before .before .before .before .before .before .before .before .put-field2 .kept .1 .1 .0, c .before .before .before .before .before .before .before .before .before .before .before .put-field3 .ensures .1, c .before .before .before .before .before .before .before .before .before .before .before .put-field3 .kept .1 .1 .0, c .before .before .before .before .before .before .before .put-field4 .ensures .1, c .before .before .before .before .before .before .before .put-field4 .kept .1 .1 .0, c .before .before .before .put-field5 .ensures .1, c .before .before .before .put-field5 .kept .1 .1 .0)
 
--- src/lines.rt:38:1
 same-length : tie.Need-same-length
 same-length c = c .before .before .put-field6 .kept .1 .1 .0 ∙ c .before .before .before .before .before .before .put-field5 .kept .1 .1 .0 ∙ c .before .before .before .before .before .before .before .before .before .before .put-field4 .kept .1 .1 .0 ∙ c .before .before .before .before .before .before .before .before .before .before .before .before .before .before .put-field3 .kept .1 .1 .0 ∙ c .before .before .before .before .before .before .before .before .before .before .before .before .before .before .before .before .before .before .put-field2 .kept .1 .1 .0 ∙ c .before .before .before .before .before .before .before .before .before .before .before .before .before .before .before .before .before .before .before .before .before .before .put-field .kept .1 .1 .0
 
--- src/lines.rt:38:1
 returns : tie.Need-returns
 returns c =
     let a = c .before .before .before .before .before .before .before .before .before .before .before .before .before .before .before .before .before .before .before .before .before .before .before .before .before .args in

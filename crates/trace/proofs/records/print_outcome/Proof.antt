@@ -1,3 +1,5 @@
+-- `trace::records::print_outcome` meets its contract.
+-- Assumes nothing.
 use borrow.Author.Needs.{needs}
 use mathlib.Core.Path.{ap, _∙_}
 use Prim.Native.Nat.{_+_}
@@ -6,56 +8,37 @@ use Rattle.payload.specs.Memory.{put}
 use Rattle.trace.proofs.Steps.{line-made}
 use Rattle.trace.proofs.records.print_outcome.Statement.{statement}
 use Rattle.trace.proofs.records.print_outcome.Tie as tie
-use Rattle.trace.proofs.records.print_outcome.Reads as reads
-use Rattle.trace.proofs.records.print_outcome.Lts as lts
-use Rattle.station.proofs.Activation.number.Reads as Activation-number-reads
-use Rattle.station.proofs.answers.Answer.number.Reads as answers-Answer-number-reads
-use Rattle.trace.proofs.lines.put_line.Reads as put-line-reads
-use Rattle.trace.proofs.records.long.Reads as long-reads
-use Rattle.trace.proofs.records.onward.Reads as onward-reads
-use Rattle.trace.proofs.records.wide.Reads as wide-reads
 
--- src/records.rt:112:14
 number-requires : tie.Need-number-requires
 number-requires c κs = tt
 
--- src/records.rt:112:9
 wide-requires : tie.Need-wide-requires
 wide-requires c κs = tt
 
--- src/records.rt:113:14
 number-requires-2 : tie.Need-number-requires-2
 number-requires-2 c κs = tt
 
--- src/records.rt:113:9
 wide-requires-2 : tie.Need-wide-requires-2
 wide-requires-2 c κs = tt
 
--- src/records.rt:114:9
 long-requires : tie.Need-long-requires
 long-requires c κs = tt
 
--- src/records.rt:115:9
 long-requires-2 : tie.Need-long-requires-2
 long-requires-2 c κs = tt
 
--- src/records.rt:116:9
 long-requires-3 : tie.Need-long-requires-3
 long-requires-3 c κs = tt
 
--- src/records.rt:110:9
 put-line-requires : tie.Need-put-line-requires
 put-line-requires c κs = c .before .before .before .before .before .before .before .before .before .before .pre
 
--- src/records.rt:121:14
 onward-requires : tie.Need-onward-requires
 onward-requires c κs = tt
 
--- src/records.rt:103:1
 same-length : tie.Need-same-length
 same-length c = c .before .before .before .put-line .kept .1 .1 .1 .1 .1 .1 .0
 
--- src/records.rt:103:1
 returns : tie.Need-returns
 returns c =
     let a = c .before .before .before .before .before .before .before .before .before .before .before .before .before .before .args in

@@ -1,3 +1,5 @@
+-- `trace::records::print_record` meets its contract.
+-- Assumes nothing.
 use mathlib.Core.Path.{_∙_}
 use native.Mathlib.Omega.{arith}
 use Rattle.arrival.specs.Lengths.{Lent}
@@ -6,121 +8,89 @@ use Rattle.trace.proofs.Steps.{stopped-step, lost-step, frame-step, bad
 use borrow.Author.Needs.{needs}
 use Rattle.trace.proofs.records.print_record.Statement.{statement}
 use Rattle.trace.proofs.records.print_record.Tie as tie
-use Rattle.trace.proofs.records.print_record.Reads as reads
-use Rattle.trace.proofs.records.print_record.Lts as lts
-use Rattle.engine.proofs.frame_by.Reads as frame-by-reads
-use Rattle.engine.proofs.lost.Reads as lost-reads
-use Rattle.trace.proofs.lines.put_bad.Reads as put-bad-reads
-use Rattle.trace.proofs.records.kind_of.Reads as kind-of-reads
-use Rattle.trace.proofs.records.print_outcome.Reads as print-outcome-reads
-use Rattle.trace.proofs.records.stop.Reads as stop-reads
 
 abbrev at-start : tie.Start → At
 at-start c =
     let a = c .args in
     record { run = a .run; lent = record { memory = a .memory .now; plan = a .plan .now; replies = a .replies .now; deliveries = a .deliveries .now } }
 
--- src/records.rt:141:9
 returns : tie.Need-returns
 returns c =
     let a = c .before .before .before .before .before .before .before .args in
     (stopped-step (at-start (c .before .before .before .before .before .before .before)) (a .octets .now) (a .text .now) (a .place) (c .if1 .taken), omega arith)
 
--- src/records.rt:144:11
 kind-of-requires : tie.Need-kind-of-requires
 kind-of-requires c κs = tt
 
--- src/records.rt:146:17
 enum-told : tie.Need-enum-told
 enum-told c = search needs
 
--- src/records.rt:146:17
 lost-requires : tie.Need-lost-requires
 lost-requires c κs = tt
 
--- src/records.rt:149:13
 print-outcome-requires : tie.Need-print-outcome-requires
 print-outcome-requires c κs = c .before .before .before .before .before .before .before .before .before .before .before .before .before .before .pre .2
 
--- src/records.rt:163:38
 enum-told-2 : tie.Need-enum-told-2
 enum-told-2 c = search needs
 
--- src/records.rt:163:46
 sub-frame-by : tie.Need-sub-frame-by
 sub-frame-by c = omega (arith, frame-whole (c .before .before .before .before .before .before .before .before .before .before .before .before .args .octets .now) (c .before .before .before .kind-of .result) (c .before .before .before .kind-of .ensures) (c .before .enum-told2 .given .1))
 
--- src/records.rt:163:46
 part-frame-by-start : tie.Need-part-frame-by-start
 part-frame-by-start c = omega (arith, frame-whole (c .before .before .before .before .before .before .before .before .before .before .before .before .args .octets .now) (c .before .before .before .kind-of .result) (c .before .before .before .kind-of .ensures) (c .before .enum-told2 .given .1))
 
--- src/records.rt:163:46
 part-frame-by-end : tie.Need-part-frame-by-end
 part-frame-by-end c = search needs
 
--- src/records.rt:163:17
 frame-by-requires : tie.Need-frame-by-requires
 frame-by-requires c κs = (c .before .before .before .before .before .before .before .before .before .before .before .before .before .before .before .before .pre .0, c .before .before .before .before .before .before .before .before .before .before .before .before .before .before .before .before .pre .1)
 
--- src/records.rt:164:13
 print-outcome-requires-2 : tie.Need-print-outcome-requires-2
 print-outcome-requires-2 c κs = c .before .before .before .before .before .before .before .before .before .before .before .before .before .before .before .before .before .before .before .before .before .before .before .before .before .before .pre .2
 
--- src/records.rt:167:51
 enum-told-3 : tie.Need-enum-told-3
 enum-told-3 c = search needs
 
--- src/records.rt:167:17
 put-bad-requires : tie.Need-put-bad-requires
 put-bad-requires c κs = c .before .before .before .before .before .before .before .before .before .before .before .before .pre .2
 
--- src/records.rt:169:22
 stop-requires : tie.Need-stop-requires
 stop-requires c κs = tt
 
--- src/records.rt:127:1
 same-length : tie.Need-same-length
 same-length c = c .before .before .print-outcome .kept .1 .1 .0
 
--- src/records.rt:127:1
 returns-2 : tie.Need-returns-2
 returns-2 c =
     let a = c .before .before .before .before .before .before .before .before .before .before .before .before .before .before .before .before .before .args in
     let e = c .before .before .print-outcome .ensures in
     (lost-step (at-start (c .before .before .before .before .before .before .before .before .before .before .before .before .before .before .before .before .before)) (a .octets .now) (c .before .before .before .before .before .before .before .before .kind-of .result) (c .before .before .before .before .before .before .before .before .before .before .if1 .left) (c .before .before .before .before .before .before .before .before .kind-of .ensures) (a .text .now) _ (a .place) _ _ (c .before .before .before .before .before .before .enum-told .given .1) (c .before .before .before .before .before .lost .result) (c .before .before .before .before .before .lost .ensures) (e .0) (e .1) (e .2), e .3)
 
--- src/records.rt:127:1
 same-length-2 : tie.Need-same-length-2
 same-length-2 c = c .before .before .before .before .before .before .before .before .before .before .before .before .frame-by .kept .1 .1 .1 .1 .0
 
--- src/records.rt:127:1
 same-length-3 : tie.Need-same-length-3
 same-length-3 c = c .before .before .before .before .before .before .before .before .before .before .before .before .frame-by .kept .1 .1 .1 .1 .1 .1 .1 .0
 
--- src/records.rt:127:1
 same-length-4 : tie.Need-same-length-4
 same-length-4 c = c .before .before .before .before .before .before .before .before .before .before .before .before .frame-by .kept .1 .1 .1 .1 .1 .1 .1 .1 .0
 
--- src/records.rt:127:1
 same-length-5 : tie.Need-same-length-5
 same-length-5 c = c .before .before .before .before .before .before .before .before .before .before .before .before .frame-by .kept .1 .1 .1 .1 .1 .1 .1 .1 .1 .0
 
--- src/records.rt:127:1
 same-length-6 : tie.Need-same-length-6
 same-length-6 c = c .before .before .print-outcome2 .kept .1 .1 .0
 
--- src/records.rt:127:1
 returns-3 : tie.Need-returns-3
 returns-3 c =
     let a = c .before .before .before .before .before .before .before .before .before .before .before .before .before .before .before .before .before .before .before .before .before .before .before .before .before .before .before .before .before .args in
     let e = c .before .before .print-outcome2 .ensures in
     (frame-step (at-start (c .before .before .before .before .before .before .before .before .before .before .before .before .before .before .before .before .before .before .before .before .before .before .before .before .before .before .before .before .before)) (a .octets .now) (c .before .before .before .before .before .before .before .before .before .before .before .before .before .before .before .before .before .before .before .before .kind-of .result) (c .before .before .before .before .before .before .before .before .before .before .before .before .before .before .before .before .before .before .before .before .before .before .if1 .left) (c .before .before .before .before .before .before .before .before .before .before .before .before .before .before .before .before .before .before .before .before .kind-of .ensures) (a .text .now) _ (a .place) _ _ (c .before .before .before .before .before .before .before .before .before .before .before .before .before .before .before .before .before .before .enum-told2 .given .1) (c .before .before .before .before .before .before .before .before .before .before .before .before .frame-by .result) _ (c .before .before .before .before .before .before .before .before .before .before .before .before .frame-by .ensures) (e .0) (e .1) (e .2), e .3)
 
--- src/records.rt:127:1
 same-length-7 : tie.Need-same-length-7
 same-length-7 c = c .before .before .before .put-bad .kept .1 .0
 
--- src/records.rt:127:1
 returns-4 : tie.Need-returns-4
 returns-4 c =
     let a = c .before .before .before .before .before .before .before .before .before .before .before .before .before .before .before .before .args in
