@@ -23,8 +23,8 @@ use Rattle.xgtc.specs.declared.hlend.Hlend.{Hlend}
 use Rattle.ports.specs.declared.Ports.{Ports}
 use Rattle.ports.specs.Limits.{slots, slotBytes}
 use Rattle.ranges.specs.Ranges.{inRange, identityFits, allocsFit, portsFit, slotFits, emptySlot, partialFits, partialsFit}
-use Rattle.conduct.proofs.Valid.{both}
-use Rattle.conduct.proofs.Lists.{join, every-get}
+use Rattle.ranges.proofs.Tests.{both, join}
+use Rattle.ranges.proofs.Every.{every-get}
 use Rattle.ploam.specs.Layout.{messageOctets}
 use Rattle.entries.specs.declared.Own.{Own}
 use Rattle.bwmap.specs.declared.Answer as planning

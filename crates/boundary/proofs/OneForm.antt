@@ -15,7 +15,7 @@ use Rattle.station.specs.Answers.{answerNumber}
 use Rattle.link.specs.Link.{heldAllocs}
 use Rattle.ids.specs.Ids.{assignableAlloc, sameAlloc}
 use Rattle.ranges.specs.Ranges.{inRange, identityFits, allocsFit, portsFit, partialsFit, timerFits, proper}
-use Rattle.conduct.proofs.Valid.{both}
+use Rattle.ranges.proofs.Tests.{both}
 use Rattle.host.specs.declared.Outcome.{Outcome}
 use Rattle.layout.specs.Layout.{decoded, stored}
 use Rattle.layout.proofs.RoundTrips.{read-stored}

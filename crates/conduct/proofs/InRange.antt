@@ -18,7 +18,7 @@ use Rattle.station.specs.Station.{powerOn, enter, withActivation}
 use Rattle.ranges.specs.Ranges.{identityFits, allocsFit, portsFit, partialsFit, slotFits, partialFits, timerFits, inRange}
 use Rattle.timing.specs.Timing.{silence}
 use Rattle.effects.specs.Changes.{range}
-use Rattle.conduct.proofs.Valid.{both}
+use Rattle.ranges.proofs.Tests.{both}
 use Rattle.conduct.proofs.Slots.{all-wait}
 
 -- ---- the statement: the arrays have their lengths, and the state is in range

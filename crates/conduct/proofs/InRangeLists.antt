@@ -26,8 +26,8 @@ use Rattle.station.specs.Station.{withLink}
 use Rattle.ids.proofs.Places.{place-held}
 use Rattle.ranges.specs.Ranges.{proper, allocsFit}
 use Rattle.decisions.specs.Decisions.{found}
-use Rattle.conduct.proofs.Valid.{both}
-use Rattle.conduct.proofs.Lists.{join, found-some, proper-snoc, proper-without, closed-up}
+use Rattle.ranges.proofs.Tests.{both, join}
+use Rattle.conduct.proofs.Lists.{found-some, proper-snoc, proper-without, closed-up}
 use Rattle.conduct.proofs.Slots.{eqb-comm}
 use Rattle.conduct.proofs.InRange.{Sound}
 

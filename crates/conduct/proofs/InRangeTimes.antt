@@ -15,8 +15,7 @@ use Rattle.station.specs.States.{holdsIdentity}
 use Rattle.station.specs.Station.{enter, withActivation}
 use Rattle.ranges.specs.Ranges.{identityFits}
 use Rattle.timing.specs.Timing.{countTo1, countTo2, endFrom, frameEnd, lostFrom, lostState, lostTime, unreadFrom, unreadState, unreadTime}
-use Rattle.conduct.proofs.Valid.{both}
-use Rattle.conduct.proofs.Lists.{join}
+use Rattle.ranges.proofs.Tests.{both, join}
 use Rattle.conduct.proofs.InRange.{Sound, enter-sound, silence-sound, with-activation-sound}
 
 -- ---- frame times

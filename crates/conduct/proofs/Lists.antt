@@ -13,27 +13,7 @@ use Rattle.ids.specs.declared.Place.{Place}
 use Rattle.ids.specs.declared.Place.the-variants.{At, Nowhere}
 use Rattle.ranges.specs.Ranges.{proper, every}
 use Rattle.decisions.specs.Decisions.{found}
-use Rattle.conduct.proofs.Valid.{both}
-
-pub join : (a b : Bool) → a ≡ true → b ≡ true → (a && b) ≡ true
-join true b p q = q
-join false b p q = absurd (false≢true p)
-
-pub neither : (a b : Bool) → (a || b) ≡ false → (a ≡ false) × (b ≡ false)
-neither false b e = (refl, e)
-neither true b e = absurd (false≢true (sym e))
-
-pub nor : (a b : Bool) → a ≡ false → b ≡ false → (a || b) ≡ false
-nor false b p q = q
-nor true b p q = absurd (false≢true (sym p))
-
-pub not-so : (a : Bool) → not a ≡ true → a ≡ false
-not-so true e = absurd (false≢true e)
-not-so false e = refl
-
-pub so-not : (a : Bool) → a ≡ false → not a ≡ true
-so-not true e = absurd (false≢true (sym e))
-so-not false e = refl
+use Rattle.ranges.proofs.Tests.{both, join, neither, nor, not-so, so-not}
 
 -- ---- a place is found where one of them passes
 
@@ -102,22 +82,3 @@ closed-up {A} blank (suc i) (suc (suc n)) (x ∷ l) h k =
     let g : suc i + 1 ≡ suc (i + 1) = omega arith in
     let m : suc n - 1 ≡ n = omega arith in
     rw (e, g) (ap (λ (r : List A). x ∷ r) (rw m at (closed-up blank i (suc n) l (omega arith) (omega arith))))
-
--- ---- every number from i on
-
-module _ (f : ℕ → Bool) where
-  pub every-get : (i k : ℕ) → every f i k ≡ true → (d : ℕ) → d < k → f (i + d) ≡ true
-  every-get i zero e d q = absurd (omega arith)
-  every-get i (suc k) e zero q =
-      let z : i + 0 ≡ i = omega arith in
-      rw z (both (f i) (every f (i + 1) k) e .0)
-  every-get i (suc k) e (suc d) q =
-      let z : i + suc d ≡ i + 1 + d = omega arith in
-      rw z (every-get (i + 1) k (both (f i) (every f (i + 1) k) e .1) d (omega arith))
-
-  pub every-make : (i k : ℕ) → ((d : ℕ) → d < k → f (i + d) ≡ true) → every f i k ≡ true
-  every-make i zero h = refl
-  every-make i (suc k) h =
-      let z : i + 0 ≡ i = omega arith in
-      join (f i) _ (rw z at (h 0 (omega arith)))
-      (every-make (i + 1) k (λ d q. let w : i + 1 + d ≡ i + suc d = omega arith in rw w (h (suc d) (omega arith))))

@@ -15,8 +15,8 @@ use Rattle.ids.specs.Places.{some}
 use Rattle.ports.specs.Limits.{slots, slotBytes}
 use Rattle.ports.specs.Ports.{noPort}
 use Rattle.ranges.specs.Ranges.{proper, held, portsFit, emptySlot, partialFits, slotFits, partialsFit, every}
-use Rattle.conduct.proofs.Valid.{both}
-use Rattle.conduct.proofs.Lists.{join, neither, nor, not-so, so-not, every-get, every-make}
+use Rattle.ranges.proofs.Tests.{both, join, neither, nor, not-so, so-not}
+use Rattle.ranges.proofs.Every.{every-get, every-make}
 
 -- two numbers are the same in either order
 pub eqb-comm : (a b : ℕ) → eqb a b ≡ eqb b a

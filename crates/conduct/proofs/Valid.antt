@@ -25,6 +25,7 @@ use Rattle.link.specs.Limits.{addedAllocs, mostOwed}
 use Rattle.station.specs.States.{holdsIdentity, stateNumber, o4, o5}
 use Rattle.link.specs.Link.{allocPlace}
 use Rattle.ranges.specs.Ranges.{timerFits}
+use Rattle.ranges.proofs.Tests.{both}
 use Rattle.effects.specs.declared.Change.{Change}
 use Rattle.effects.specs.declared.Change.the-variants.{Keep, Identify, Range, Delay, AddAlloc, RemoveAlloc, Enter}
 use Rattle.effects.specs.declared.Debt.{Debt}
@@ -66,10 +67,6 @@ abbrev pub Valid : Station → Effect → Type 0
 Valid s e = (ValidChange s (e .change)) × (ValidDebt s (e .change) (e .debt))
 
 -- ---- choices
-
-pub both : (a b : Bool) → (a && b) ≡ true → (a ≡ true) × (b ≡ true)
-both true b e = (refl, e)
-both false b e = absurd (false≢true e)
 
 choose : (P : Effect → Type 0) (b : Bool) (x y : Effect) → (b ≡ true → P x) → (b ≡ false → P y) → P (cond b x y)
 choose P true x y p q = p refl

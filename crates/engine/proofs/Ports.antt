@@ -18,8 +18,8 @@ use Rattle.ports.specs.Limits.{addedPorts, slots, slotBytes}
 use Rattle.ids.specs.Places.{Below, placeFrom}
 use Rattle.ports.specs.Ports.{noPort, dropOne, dropAll}
 use Rattle.ranges.specs.Ranges.{portsFit, emptySlot, partialFits, slotFits, partialsFit}
-use Rattle.conduct.proofs.Valid.{both}
-use Rattle.conduct.proofs.Lists.{every-get, every-make}
+use Rattle.ranges.proofs.Tests.{both}
+use Rattle.ranges.proofs.Every.{every-get, every-make}
 use Rattle.conduct.proofs.Slots.{all-wait}
 use Rattle.fragments.specs.declared.Effect.{Effect}
 use Rattle.fragments.specs.declared.Effect.the-variants.{Nothing, Discard, Deliver, Append}

@@ -20,7 +20,7 @@ use Rattle.station.specs.declared.answers.Answer.{Answer}
 use Rattle.station.specs.declared.answers.Answer.the-variants.{Done, StateOutOfRange, FrameLengthUnfit, BufferTooShort, HlendUnreadable, HeaderTooLong, DelineationLost, PortOutOfRange, PortHeldOrNotHeld, SlotsTaken, KeyRefused, NotWritten}
 use Rattle.station.specs.Answers.{answerNumber}
 use Rattle.ranges.specs.Ranges.{inRange}
-use Rattle.conduct.proofs.Valid.{both}
+use Rattle.ranges.proofs.Tests.{both}
 use Rattle.payload.specs.declared.walk.Delineation.the-variants.{Kept}
 use Rattle.payload.specs.Frames.{parse}
 use Rattle.payload.specs.Walk.{walkOf, leftBy, delineationOf}

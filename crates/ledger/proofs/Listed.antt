@@ -18,7 +18,7 @@ use Rattle.station.specs.Station.{powerOn}
 use Rattle.ranges.specs.Ranges.{proper, allocsFit}
 use Rattle.entries.specs.declared.Own.{Own}
 use Rattle.decisions.specs.Decisions.{found}
-use Rattle.conduct.proofs.Valid.{both}
+use Rattle.ranges.proofs.Tests.{both}
 use Rattle.ledger.specs.Events.{Event, stationOf}
 use Rattle.ledger.specs.Ledger.{holds}
 use Rattle.ledger.specs.Promises.{AllocsListed}

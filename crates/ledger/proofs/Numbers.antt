@@ -21,8 +21,8 @@ use Rattle.link.specs.Link.{noAlloc, heldAllocs, allocPlace, addAlloc, removeAl
 use Rattle.ids.proofs.Places.{place-held}
 use Rattle.ranges.specs.Ranges.{proper, allocsFit}
 use Rattle.decisions.specs.Decisions.{found}
-use Rattle.conduct.proofs.Valid.{both}
-use Rattle.conduct.proofs.Lists.{not-so, found-some, without, closed-up}
+use Rattle.ranges.proofs.Tests.{both, not-so}
+use Rattle.conduct.proofs.Lists.{found-some, without, closed-up}
 
 -- one of the list has the number n
 abbrev pub among : List AllocId → ℕ → Bool

@@ -19,7 +19,7 @@ use Rattle.link.specs.Link.{noAllocs, heldAllocs, allocPlace, addAlloc, removeA
 use Rattle.ranges.specs.Ranges.{identityFits, allocsFit}
 use Rattle.entries.specs.declared.Own.{Own}
 use Rattle.decisions.specs.Decisions.{found}
-use Rattle.conduct.proofs.Valid.{both}
+use Rattle.ranges.proofs.Tests.{both}
 use Rattle.conduct.proofs.InRangeTimes.{identity-moves}
 use Rattle.conduct.proofs.InRangeLists.{added, removed}
 use Rattle.ledger.specs.Entries.{Entry, gave, tookBack, neither}
