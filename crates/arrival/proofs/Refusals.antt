@@ -1,7 +1,7 @@
 -- What the refusals that come first say of a call.
 -- Assumes nothing.
 use Prim.Native.Nat.{ℕ}
-use mathlib.Core.Path.{_≡_, refl, ap}
+use mathlib.Core.Path.{_≡_, _∙_, refl, sym, ap}
 use mathlib.Core.Bool.{Bool, true, false, not, cond, false≢true}
 use mathlib.Core.List.{List}
 use lib.ListN.{length}
@@ -41,28 +41,31 @@ refusing true true false answer l x e = ap l (ap given e)
 refusing true false c answer l x e = ap l (ap given e)
 refusing false b c answer l x e = ap l (ap given e)
 
-abbrev pub fitnessFor : Station → List ℕ → Lent → Fitness
-fitnessFor s f lent =
-    fitnessOf s (length f) (length (lent .memory)) (length (lent .plan)) (length (lent .replies)) (length (lent .deliveries))
+-- the fitness of a call whose state was found in range, or not
+abbrev pub fitnessFor : Bool → List ℕ → Lent → Fitness
+fitnessFor fits f lent =
+    fitnessOf fits (length f) (length (lent .memory)) (length (lent .plan)) (length (lent .replies)) (length (lent .deliveries))
 
 -- a call that is fit has a state in range, a length of the paper, and buffers that suffice
-pub fit-call : (s : Station) (f : List ℕ) (lent : Lent) → fitnessFor s f lent ≡ Fit
+pub fit-call : (s : Station) (fits : Bool) (f : List ℕ) (lent : Lent) → fits ≡ inRange s → fitnessFor fits f lent ≡ Fit
     → (inRange s ≡ true) × (lengthFits (length f) ≡ true) × (buffersFit (length f) lent ≡ true)
 unfolding fitnessOf
-fit-call s f lent e = passed (inRange s) (lengthFits (length f)) (buffersFit (length f) lent) e
+fit-call s fits f lent r e =
+    let told = passed fits (lengthFits (length f)) (buffersFit (length f) lent) e in
+    (sym r ∙ told .0, told .1, told .2)
 
 -- and goes by its header
-pub fit-left : (s : Station) (f : List ℕ) (delay : ℕ) (lent : Lent) → fitnessFor s f lent ≡ Fit
+pub fit-left : (s : Station) (fits : Bool) (f : List ℕ) (delay : ℕ) (lent : Lent) → fits ≡ inRange s → fitnessFor fits f lent ≡ Fit
     → byHlend (readHlend f) s f delay lent ≡ frameLeft s f delay lent
 unfolding frameLeft
-fit-left s f delay lent e =
-    let told = fit-call s f lent e in
+fit-left s fits f delay lent r e =
+    let told = fit-call s fits f lent r e in
     simp (told .0, told .1, told .2)
 
 -- one that is refused leaves everything
-pub refused-left : (s : Station) (f : List ℕ) (delay : ℕ) (lent : Lent) (answer : Answer) → fitnessFor s f lent ≡ Refused answer
-    → frameLeft s f delay lent ≡ refused answer s lent
+pub refused-left : (s : Station) (fits : Bool) (f : List ℕ) (delay : ℕ) (lent : Lent) (answer : Answer) → fits ≡ inRange s
+    → fitnessFor fits f lent ≡ Refused answer → frameLeft s f delay lent ≡ refused answer s lent
 unfolding frameLeft fitnessOf
-refused-left s f delay lent answer e =
+refused-left s fits f delay lent answer r e =
     refusing (inRange s) (lengthFits (length f)) (buffersFit (length f) lent) answer (λ (a : Answer). refused a s lent)
-    (byHlend (readHlend f) s f delay lent) e
+    (byHlend (readHlend f) s f delay lent) (ap (λ (x : Bool). fitnessFor x f lent) (sym r) ∙ e)

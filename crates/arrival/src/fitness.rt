@@ -2,7 +2,6 @@
 ghost use mathlib.Core.Path.{_≡_};
 ghost use Rattle.arrival.specs.Fitness.{fitnessOf};
 use super::lengths;
-use station::Station;
 use station::answers::Answer;
 
 pub(crate) enum Fitness {
@@ -10,18 +9,19 @@ pub(crate) enum Fitness {
     Refused(Answer),
 }
 
-// Tested in the order of the numbers, by the lengths of the frame and of what is lent.
+// Tested in the order of the numbers: whether the state is in range, and the lengths of the frame and of what is lent. The state
+// itself is not asked for, since it would be copied.
 pub(crate) fn fitness_of(
-    s: Station,
+    in_range: bool,
     frame: usize,
     memory: usize,
     plan: usize,
     replies: usize,
     deliveries: usize,
 ) -> Fitness
-    ensures { λ r. ⌜ r ≡ fitnessOf s frame memory plan replies deliveries ⌝ }
+    ensures { λ r. ⌜ r ≡ fitnessOf in_range frame memory plan replies deliveries ⌝ }
 {
-    if !ranges::in_range(s) {
+    if !in_range {
         return Fitness::Refused(Answer::StateOutOfRange);
     }
     if !lengths::length_fits(frame) {

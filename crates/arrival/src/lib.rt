@@ -265,7 +265,7 @@ pub fn frame_by(
     ensures { λ r. ⌜ FrameLeaves s (now (frame .entry)) delay (record { memory = now (memory .entry); plan = now (plan .entry); replies = now (replies .entry); deliveries = now (deliveries .entry) }) r (record { memory = now (memory .exit); plan = now (plan .exit); replies = now (replies .exit); deliveries = now (deliveries .exit) }) ⌝ }
 {
     match fitness::fitness_of(
-        s,
+        ranges::in_range(s),
         frame.len(),
         memory.len(),
         plan.len(),
@@ -301,7 +301,7 @@ pub fn frame(
     ensures { λ r. ⌜ FrameLeaves s (now (frame .entry)) delay (record { memory = now (memory .entry); plan = now (plan .entry); replies = now (replies .entry); deliveries = now (deliveries .entry) }) r (record { memory = now (memory .exit); plan = now (plan .exit); replies = now (replies .exit); deliveries = now (deliveries .exit) }) ⌝ }
 {
     match fitness::fitness_of(
-        s,
+        ranges::in_range(s),
         frame.len(),
         memory.len(),
         plan.len(),

@@ -7,12 +7,9 @@ use Rattle.arrival.specs.Fitness.{fitnessOf}
 use Rattle.arrival.proofs.fitness.fitness_of.Statement.{statement}
 use Rattle.arrival.proofs.fitness.fitness_of.Tie as tie
 
-in-range-requires : tie.Need-in-range-requires
-in-range-requires c κs = search needs
-
 returns : tie.Need-returns
 unfolding fitnessOf
-returns c = simp (sym (c .before .in-range .ensures) ∙ not-true _ (c .if1 .taken))
+returns c = simp (not-true (c .before .args .in-range) (c .if1 .taken))
 
 length-fits-requires : tie.Need-length-fits-requires
 length-fits-requires c κs = search needs
@@ -20,9 +17,9 @@ length-fits-requires c κs = search needs
 returns-2 : tie.Need-returns-2
 unfolding fitnessOf
 returns-2 c =
-    let at = c .before .before in
+    let first = c .before .before in
     simp (
-      sym (at .before .in-range .ensures) ∙ not-false _ (at .if1 .left),
+      not-false (first .before .args .in-range) (first .if1 .left),
       sym (c .before .length-fits .ensures) ∙ not-true _ (c .if2 .taken),
     )
 
@@ -33,8 +30,9 @@ returns-3 : tie.Need-returns-3
 unfolding fitnessOf
 returns-3 c =
     let at = c .before .before in
+    let first = at .before .before in
     simp (
-      sym (at .before .before .before .in-range .ensures) ∙ not-false _ (at .before .before .if1 .left),
+      not-false (first .before .args .in-range) (first .if1 .left),
       sym (at .before .length-fits .ensures) ∙ not-false _ (at .if2 .left),
       sym (c .before .enough .ensures) ∙ not-true _ (c .if3 .taken),
     )
@@ -43,8 +41,9 @@ returns-4 : tie.Need-returns-4
 unfolding fitnessOf
 returns-4 c =
     let at = c .before .before in
+    let first = at .before .before in
     simp (
-      sym (at .before .before .before .in-range .ensures) ∙ not-false _ (at .before .before .if1 .left),
+      not-false (first .before .args .in-range) (first .if1 .left),
       sym (at .before .length-fits .ensures) ∙ not-false _ (at .if2 .left),
       sym (c .before .enough .ensures) ∙ not-false _ (c .if3 .left),
     )
@@ -53,7 +52,6 @@ pub fitness-of-spec : {M : Type 1} → statement M
 fitness-of-spec =
     tie.close
     (tie.spec
-    in-range-requires
     returns
     length-fits-requires
     returns-2
