@@ -159,6 +159,6 @@ pub fn receive_all_by(t: &[u32; 1024], s: Station, messages: &[u8]) -> Station
 pub fn receive_all(s: Station, messages: &[u8]) -> Station
     ensures { λ r. ⌜ AllReceived s (now (messages .entry)) r ⌝ }
 {
-    let t = aes::table::MIX;
+    let t = aes::mix::table();
     receive_all_by(&t, s, messages)
 }

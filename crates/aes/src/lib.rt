@@ -1,5 +1,5 @@
-// AES-128 (FIPS 197) on words, a round by a table. The table is lent: a function that names a constant array copies
-// it at each call, so whoever has several blocks to encipher names MIX once and lends it.
+// AES-128 (FIPS 197) on words, a round by a table. The table is lent: a function that asks for it copies it at each call, so
+// whoever has several blocks to encipher asks once (`mix::table`) and lends it.
 ghost use mathlib.Core.Path.{_≡_};
 ghost use Prim.Native.Nat.{_≤_};
 ghost use Rattle.aes.specs.Cipher.{aes128};
@@ -7,9 +7,7 @@ ghost use Rattle.aes.specs.Words.{octetsOf, added, Joined, Loaded};
 ghost use Rattle.aes.specs.ByTable.{entryOf, columnBy, roundBy, subBy, lastColumnBy, lastBy};
 ghost use Rattle.aes.specs.ByTable.{turnedWordBy, nextKeyBy, roundKeysBy, firstRoundsBy, cipherBy};
 
-pub mod table;
-
-use table::MIX;
+pub mod mix;
 
 // A block, a state or a round key: the first octet is the highest of a.
 pub struct Words {
@@ -231,7 +229,7 @@ pub fn encipher(t: &[u32; 1024], first: FirstKeys, last: LastKeys, input: Words)
 pub fn encrypt(key: [u8; 16], input: [u8; 16]) -> [u8; 16]
     ensures { λ r. ⌜ r ≡ aes128 key input ⌝ }
 {
-    let t = MIX;
+    let t = mix::table();
     let ks = expand(&t, load(key));
     store(encipher(&t, ks.first, ks.last, load(input)))
 }

@@ -312,7 +312,7 @@ pub fn frame(
         Fitness::Fit => {
             let syndromes = bch::syndromes::table();
             let flips = bch::flips::table();
-            let mix = aes::table::MIX;
+            let mix = aes::mix::table();
             by_hlend(
                 &syndromes,
                 &flips,

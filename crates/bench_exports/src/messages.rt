@@ -59,7 +59,7 @@ fn count_genuine(t: &[u32; 1024], usual: Prepared, installed: Prepared, messages
 pub extern "C" fn bench_genuine(messages: &[u8]) -> usize
     ensures { λ r. ⌜ r ≡ genuineCount benchKey (messagesIn (now (messages .entry))) ⌝ }
 {
-    let t = aes::table::MIX;
+    let t = aes::mix::table();
     let usual = integrity::default_key();
     let installed = cmac::prepare(&t, [9u8; 16]);
     count_genuine(&t, usual, installed, messages)

@@ -214,7 +214,7 @@ pub fn mac64(t: &[u32; 1024], key: Prepared, m: &[u8]) -> [u8; 8]
 pub fn mac_once(key: [u8; 16], m: &[u8]) -> [u8; 16]
     ensures { λ r. ⌜ r ≡ cmac key (now (m .entry)) ⌝ }
 {
-    let t = aes::table::MIX;
+    let t = aes::mix::table();
     let p = prepare(&t, key);
     mac(&t, p, m)
 }

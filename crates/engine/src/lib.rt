@@ -10,7 +10,7 @@ pub use station::Station;
 pub use arrival::Outcome;
 pub use arrival::frame;
 // The same by lent tables, for a program in Rattle that makes many calls: it names `bch::syndromes::table()`,
-// `bch::flips::table()` and `aes::table::MIX` once. No caller from C sees it.
+// `bch::flips::table()` and `aes::mix::table()` once. No caller from C sees it.
 pub use arrival::frame_by;
 // No frame has arrived: the synchroniser reports LODS. Answers 0 or 1.
 pub use times::lost;

@@ -101,6 +101,6 @@ pub fn reply_all_by(
 pub fn reply_all(s: Station, n: usize, delay: u32, replies: &mut [u8]) -> Station
     ensures { λ r. ⌜ Replied s n delay (now (replies .entry)) (record { station = r; octets = now (replies .exit) }) ⌝ }
 {
-    let t = aes::table::MIX;
+    let t = aes::mix::table();
     reply_all_by(&t, s, n, delay, replies)
 }

@@ -65,7 +65,7 @@ fn finish(run: Run, kept: usize, text: &mut [u8])
 fn main() {
     let syndromes = bch::syndromes::table();
     let flips = bch::flips::table();
-    let mix = aes::table::MIX;
+    let mix = aes::mix::table();
     let mut input = [0u8; 65536];
     let mut memory = [0u8; 34816];
     let mut plan = [0u16; 256];

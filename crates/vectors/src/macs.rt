@@ -319,7 +319,7 @@ fn station_messages(t: &[u32; 1024], usual: Prepared, installed: Prepared) {
 }
 
 pub fn run() {
-    let t = aes::table::MIX;
+    let t = aes::mix::table();
     let usual = integrity::default_key();
     let installed = cmac::prepare(&t, ploam_ik());
     fips_197();

@@ -1,11 +1,10 @@
 -- `trace::main` meets its contract.
 -- Assumes nothing.
 use borrow.Author.Needs.{needs}
-use mathlib.Core.Path.{_≡_, refl, sym, _∙_}
+use mathlib.Core.Path.{_≡_, sym, _∙_}
 use Prim.Native.Nat.{_≤_}
 use native.Mathlib.Omega.{arith}
 use lib.ListN.{length}
-use Rattle.aes.specs.MixTable.{mixTable}
 use Rattle.trace.proofs.main.Statement.{statement}
 use Rattle.trace.proofs.main.Tie as tie
 
@@ -34,6 +33,9 @@ table-requires c κs = tt
 
 table-requires-2 : tie.Need-table-requires-2 Inv-loop μ-loop
 table-requires-2 c κs = tt
+
+table-requires-3 : tie.Need-table-requires-3 Inv-loop μ-loop
+table-requires-3 c κs = tt
 
 start-requires : tie.Need-start-requires Inv-loop μ-loop
 start-requires c κs = tt
@@ -72,10 +74,9 @@ slice-aggregate-turn-6 : tie.Need-slice-aggregate-turn-6 Inv-loop μ-loop
 slice-aggregate-turn-6 c = c .before .before .before .before .before .before .before .before .before .before .before .before .before .before .before .before .loop .inv .6
 
 turn-requires : tie.Need-turn-requires Inv-loop μ-loop
-unfolding mixTable
 turn-requires c κs =
     let h = filled-within (c .before .before .before .before .before .before .before .before .before .before) in
-    (record { octets = c .before .before .before .before .before .before .before .before .before .before .before .before .before .before .before .before .before .before .before .table .ensures; repairs = c .before .before .before .before .before .before .before .before .before .before .before .before .before .before .before .before .before .before .table2 .ensures }, refl, h .0, omega (arith, h .1, c .before .before .before .before .before .before .before .before .before .before .before .before .before .before .before .before .loop .inv .6))
+    (record { octets = c .before .before .before .before .before .before .before .before .before .before .before .before .before .before .before .before .before .before .before .before .table .ensures; repairs = c .before .before .before .before .before .before .before .before .before .before .before .before .before .before .before .before .before .before .before .table2 .ensures }, c .before .before .before .before .before .before .before .before .before .before .before .before .before .before .before .before .before .before .table3 .ensures, h .0, omega (arith, h .1, c .before .before .before .before .before .before .before .before .before .before .before .before .before .before .before .before .loop .inv .6))
 
 slice-aggregate-write-out : tie.Need-slice-aggregate-write-out Inv-loop μ-loop
 slice-aggregate-write-out c = c .before .before .before .before .before .before .before .before .before .before .before .before .before .before .before .before .before .before .before .before .before .before .before .before .loop .inv .6 ∙ sym (c .before .before .before .before .before .before .before .turn .kept .1 .1 .1 .1 .1 .1 .1 .1 .1 .1 .0)
@@ -133,6 +134,7 @@ main-spec =
     μ-loop
     table-requires
     table-requires-2
+    table-requires-3
     start-requires
     loop-holds
     sub-turns

@@ -1,8 +1,10 @@
 // The table by which a round is worked.
+ghost use mathlib.Core.Path.{_≡_};
+ghost use Rattle.aes.specs.MixTable.{mixTable};
 
 // For each row of a column 256 entries: entry x of the first row is the column 2, 1, 1 and 3 times the S-box value of x,
 // and that of each other row is turned by an octet more.
-pub const MIX: [u32; 1024] = [
+const MIX: [u32; 1024] = [
     3328402341,
     4168907908,
     4000806809,
@@ -1028,3 +1030,10 @@ pub const MIX: [u32; 1024] = [
     3149649517,
     370555436,
 ];
+
+// By value: whoever has several blocks to encipher asks for it once and lends it.
+pub fn table() -> [u32; 1024]
+    ensures { λ r. ⌜ r ≡ mixTable ⌝ }
+{
+    MIX
+}
