@@ -59,9 +59,6 @@ first (x ∷ xs) (suc n) h k = let l : n ≤ length xs = omega arith in ap (λ (
 pub oldest-first : (q : Queue) → 0 < q .count → q .count ≤ length (q .answers) → owedAnswers q ≡ oldest q ∷ owedAnswers (paid q)
 oldest-first q h k = first (q .answers) (q .count) h k
 
-pub none-paid : (a : List Owed) → paid (queue a 0) ≡ queue a 0
-none-paid a = refl
-
 -- what is paid still fits
 paid-fits : (a : List Owed) (n : ℕ) → n ≤ length a → paid (queue a n) .count ≤ length (paid (queue a n) .answers)
 paid-fits a zero h = h
