@@ -52,6 +52,13 @@ pub fn read64(word: u64) -> Reading64
     read64_by(&syndromes, &flips, word)
 }
 
+// The same for whoever walks over many words.
+pub fn read64_by_octets(word: u64) -> Reading64
+    ensures { λ r. ⌜ Reads 64 word (found64 r) ⌝ }
+{
+    read64(word)
+}
+
 // The true word of 32 bits at most two bits away.
 pub fn read32(word: u32) -> Reading32
     ensures { λ r. ⌜ Reads 32 word (found32 r) ⌝ }
