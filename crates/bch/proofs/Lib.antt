@@ -9,6 +9,4 @@ pub mod RemainderRule
 pub mod Syndrome
 pub mod Patterns
 pub mod Places
-pub mod FlipRule
-pub mod SyndromeRule
 pub mod Determined
