@@ -1,4 +1,4 @@
--- `bwmap::plan_map_by` meets its contract.
+-- `bwmap::plan_map` meets its contract.
 -- Assumes nothing.
 use mathlib.Core.Path.{_∙_, sym}
 use borrow.Author.Tests.{lt-leb, le-leb}
@@ -6,8 +6,8 @@ use denote.Ref.{now}
 use Rattle.series.specs.Series.{plannedOf}
 use Rattle.bwmap.proofs.Steps.{from-start, finish, silent-plan}
 use borrow.Author.Needs.{needs}
-use Rattle.bwmap.proofs.plan_map_by.Statement.{statement}
-use Rattle.bwmap.proofs.plan_map_by.Tie as tie
+use Rattle.bwmap.proofs.plan_map.Statement.{statement}
+use Rattle.bwmap.proofs.plan_map.Tie as tie
 
 returns : tie.Need-returns
 returns c = rw (lt-leb _ _ (c .if1 .taken))
@@ -42,8 +42,8 @@ returns-3 c =
     rw (le-leb _ _ (c .before .before .before .before .before .before .before .if1 .left))
     (finish (now (a .plan)) _ (c .before .before .before .walk-map .result) (a .carried) (c .carried-over2 .result) (plannedOf (a .own) (now (a .map)) (a .carried)) (c .before .before .before .walk-map .ensures .0) (c .before .before .before .before .before .before .before .if1 .left) (c .before .before .before .walk-map .ensures .1 ∙ from-start (a .own) (now (a .map)) (now (a .plan)) (a .carried)) (c .carried-over2 .ensures))
 
-pub plan-map-by-spec : {M : Type 1} → statement M
-plan-map-by-spec =
+pub plan-map-spec : {M : Type 1} → statement M
+plan-map-spec =
     tie.close
     (tie.spec
     returns
