@@ -3,6 +3,7 @@ pub mod Xor
 pub mod Ones
 pub mod Linear
 pub mod Range
+pub mod Powers
 pub mod Low
 pub mod Multiple
 pub mod RemainderRule

@@ -13,10 +13,12 @@ use lib.Bits.{bitXor, xor-zero-r, xor-zero-l}
 use lib.Count.{ones, ones-step, ones-ones}
 use borrow.Author.Tests.{le-ltb}
 use lib.Dec.{T, eqb, ltb, eqb→eq}
-use lib.ListN.{getD}
+use lib.ListN.{getD, List·getD-append}
+use lib.Seq.{getD-append-add}
 use Rattle.bch.specs.Code.{remainderFrom, double, remainder}
 use Rattle.bch.specs.Tables.{firstPlace, secondPlace, bitsOf, countsOf, Flips}
-use Rattle.tables.specs.Tables.{lane}
+use Rattle.tables.specs.Tables.{past, lane}
+use Rattle.tables.proofs.Entries.{past-at, lane-zero}
 use Rattle.flips.specs.Lower.{lower}
 use Rattle.flips.specs.Upper.{upper}
 use Rattle.bch.proofs.Both.{left, right}
@@ -173,7 +175,7 @@ unpacked [] = []
 unpacked (x ∷ xs) = lane 0 x ∷ lane 1 x ∷ lane 2 x ∷ lane 3 x ∷ unpacked xs
 
 pub unpacked-at : (xs : List ℕ) (q j : ℕ) → j < 4 → getD (unpacked xs) (q * 4 + j) 0 ≡ lane j (getD xs q 0)
-unpacked-at [] q j h = refl
+unpacked-at [] q j h = sym (lane-zero j)
 unpacked-at (x ∷ xs) zero zero h = refl
 unpacked-at (x ∷ xs) zero (suc zero) h = refl
 unpacked-at (x ∷ xs) zero (suc (suc zero)) h = refl
@@ -225,9 +227,20 @@ rule s h =
       sound = sound s h;
     }
 
--- the two tables' entries are these
-pub entry-of : (half : List ℕ) (q s : ℕ) → getD (lower ++ upper) (s / 4) 0 ≡ getD half q 0 → lane (s % 4) (getD half q 0) ≡ getD flips s 0
+-- the entry of a syndrome, out of the four that stand together
+pub entry-of : (s : ℕ) → lane (s % 4) (getD (lower ++ upper) (s / 4 % 1024) 0) ≡ getD flips (s % 4096) 0
 unfolding flips
-entry-of half q s e =
-    ap (lane (s % 4)) (sym e) ∙ sym (unpacked-at (lower ++ upper) (s / 4) (s % 4) (omega arith))
-    ∙ ap (λ (x : ℕ). getD (unpacked (lower ++ upper)) x 0) (omega arith)
+entry-of s =
+    let at : s / 4 % 1024 * 4 + s % 4 ≡ s % 4096 = omega arith in
+    sym (unpacked-at (lower ++ upper) (s / 4 % 1024) (s % 4) (omega arith)) ∙ ap (λ (x : ℕ). getD (unpacked (lower ++ upper)) x 0) at
+
+-- and those four, in one table or the other
+pub in-lower : (s : ℕ) → s / 2048 % 2 ≡ 0 → past 512 lower (512 + s / 4 % 512) ≡ getD (lower ++ upper) (s / 4 % 1024) 0
+in-lower s e =
+    let at : s / 4 % 1024 ≡ s / 4 % 512 = omega arith in
+    past-at 512 lower (s / 4 % 512) ∙ sym (List·getD-append lower upper 0 (s / 4 % 512) (omega arith)) ∙ ap (λ (x : ℕ). getD (lower ++ upper) x 0) (sym at)
+
+pub in-upper : (s : ℕ) → s / 2048 % 2 ≡ 1 → past 512 upper (512 + s / 4 % 512) ≡ getD (lower ++ upper) (s / 4 % 1024) 0
+in-upper s e =
+    let at : s / 4 % 1024 ≡ 512 + s / 4 % 512 = omega arith in
+    past-at 512 upper (s / 4 % 512) ∙ sym (getD-append-add lower upper (s / 4 % 512) 0) ∙ ap (λ (x : ℕ). getD (lower ++ upper) x 0) (sym at)

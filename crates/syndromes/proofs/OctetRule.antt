@@ -23,6 +23,7 @@ use Rattle.syndromes.specs.Lower.{lower as lowerOctets}
 use Rattle.syndromes.specs.Upper.{upper as upperOctets}
 use Rattle.bch.proofs.Both.{left, right}
 use Rattle.bch.proofs.RemainderRule.{remainders, rule as remainder-rule}
+use Rattle.bch.proofs.Powers.{mul-lt, octet-power}
 use Rattle.bch.proofs.Patterns.{rem-one}
 use Rattle.bch.proofs.Linear.{rem-zero}
 use Rattle.bch.proofs.Syndrome.{syndrome-xor, syndrome-zero}
@@ -65,9 +66,6 @@ spread : ℕ → ℕ → List ℕ → Bool
 unfolding shifted bitSyndrome
 spread zero k xs = eqb (getD xs 0 0) 0
 spread (suc n) k xs = spread n k xs && (eqb (length (take (2 ^ n) xs)) (2 ^ n) && shifted (bitSyndrome (n + k)) (take (2 ^ n) xs) (drop (2 ^ n) xs))
-
-pub mul-lt : (a b m : ℕ) → a < b → zero < m → a * m < b * m
-mul-lt a b m h p = omega (arith, digits-lt h p)
 
 spread-at : (n k : ℕ) (xs : List ℕ) → n + k ≤ 64 → T (spread n k xs) → (v : ℕ) → v < 2 ^ n → getD xs v 0 ≡ syndrome (v * 2 ^ k)
 unfolding spread
@@ -114,10 +112,6 @@ lanes : ℕ → ℕ → List ℕ → Bool
 unfolding spread
 lanes zero o xs = true
 lanes (suc n) o xs = spread 8 ((o + n) * 8) (map (lane n) xs) && lanes n o xs
-
-pub octet-power : (o : ℕ) → 2 ^ (o * 8) ≡ 256 ^ o
-octet-power zero = refl
-octet-power (suc o) = ap (λ (x : ℕ). 2 ^ x) (omega arith) ∙ pow-add 2 8 (o * 8) ∙ ap (λ (x : ℕ). 256 * x) (octet-power o) ∙ mul-comm 256 (256 ^ o) ∙ sym (pow-suc 256 o)
 
 lanes-at : (n o : ℕ) (xs : List ℕ) → o + n ≤ 8 → T (lanes n o xs) → (k v : ℕ) → k < n → v < 256 → lane k (getD xs v 0) ≡ syndrome (v * 256 ^ (o + k))
 unfolding lanes

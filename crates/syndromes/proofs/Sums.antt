@@ -10,7 +10,7 @@ use lib.Bits.{bitXor, xor-shifted, xor-comm, xor-zero-l, xor-zero-r}
 use Rattle.bch.specs.Tables.{syndrome}
 use Rattle.bch.proofs.Xor.{xor-assoc, xor-four}
 use Rattle.bch.proofs.Syndrome.{syndrome-xor, syndrome-zero}
-use Rattle.syndromes.proofs.OctetRule.{mul-lt, octet-power}
+use Rattle.bch.proofs.Powers.{mul-lt, octet-power}
 
 -- a word from octet o on: its last octet, and the others one octet further
 split : (o w : ℕ) → syndrome (w * 256 ^ o) ≡ bitXor (syndrome (w % 256 * 256 ^ o)) (syndrome (w / 256 * 256 ^ suc o))

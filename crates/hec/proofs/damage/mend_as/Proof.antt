@@ -26,10 +26,10 @@ cast-t16 c = search needs
 
 -- the test by arithmetic, not as it stands: one of another number is refused for what it lets through or keeps out
 returns : tie.Need-returns
-returns c = let a = c .before .args in few-enough (a .entry) (a .word) (a .syndrome) (omega (arith, c .if1 .taken))
+returns c = let a = c .before .args in few-enough (a .entry) (a .word) (a .s) (omega (arith, c .if1 .taken))
 
 returns-2 : tie.Need-returns-2
-returns-2 c = let a = c .before .args in too-many (a .entry) (a .word) (a .syndrome) (omega (arith, c .if1 .left))
+returns-2 c = let a = c .before .args in too-many (a .entry) (a .word) (a .s) (omega (arith, c .if1 .left))
 
 pub mend-as-spec : {M : Type 1} → statement M
 mend-as-spec =

@@ -1,8 +1,7 @@
--- Reading by the true tables is reading: what they name is the flaw, and where they name nothing there is none.
+-- A word that is mended by what its remainder flips is read: that is the flaw, and where nothing is named there is none.
 -- Assumes nothing.
 use mathlib.Core.Path.{_≡_, refl, sym, ap, ap₂, _∙_, subst}
 use mathlib.Core.Bool.{Bool, true, false, cond, true≢false}
-use mathlib.Core.List.{List}
 use Prim.Native.Nat.{ℕ, zero, suc, _+_, _-_, _*_, _/_, _%_, _^_, _≤_, _<_}
 use native.Mathlib.Nat.{one-mul, add-zero, lt-of-lt-of-le, mul-comm, pow-suc}
 use native.Mathlib.Decide.{decLt}
@@ -14,16 +13,14 @@ use lib.Bits.{bitXor, xor-lt, xor-zero-r}
 use lib.Count.{ones, ones-step, ones-cat, ones-ones}
 use lib.ListN.{getD}
 use Rattle.bch.specs.Code.{TrueWord, distance, place, remainder}
-use Rattle.hec.specs.Reads.{Reading, word, unreadable, Reads, reading}
-use Rattle.bch.specs.Tables.{syndrome, Syndromes, Flips, bitsOf, countsOf}
-use Rattle.hec.specs.Lent.{lastBit, mendedBy, readingBy, sent, syndromeBy}
+use Rattle.hec.specs.Reads.{Reading, word, unreadable, Reads}
+use Rattle.bch.specs.Tables.{syndrome, Flips, bitsOf, countsOf}
+use Rattle.hec.specs.Mends.{lastBit, mendedAs, sent}
 use Rattle.bch.proofs.Xor.{bit, xor-half, xor-cancel}
 use Rattle.bch.proofs.Ones.{half-lt, ones-bit, ones-xor-le, ones-xor-odd}
 use Rattle.bch.proofs.Places.{bits-within}
 use Rattle.bch.proofs.Syndrome.{syndrome-parts, syndrome-made, syndrome-true, syndrome-lt}
 use Rattle.hec.proofs.Words.{Flaw, code-few, flaw-near, near-flaw, one-near, undamaged}
-use Rattle.hec.proofs.Nearest.{is-reading}
-use Rattle.hec.proofs.SyndromeSum.{word-syndrome}
 
 -- the last bit brings the parity to p
 parity : (all some count b p : ℕ) → all % 2 ≡ (some + b) % 2 → some % 2 ≡ count % 2 → b ≡ (count + p) % 2 → p < 2 → all % 2 ≡ p
@@ -51,39 +48,40 @@ module _ (v s : ℕ) (small : s < 8192) (own : remainder (bitsOf v / 2) ≡ s % 
             (ones-xor-odd (bitsOf v) b ∙ ap (λ (x : ℕ). (ones (bitsOf v) + x) % 2) one) (ap (λ (x : ℕ). x % 2) count) refl (omega arith));
       }
 
-module _ (flips : List ℕ) (table : Flips flips) (w : ℕ) (fits : w < 2 ^ 64) where
+-- a word with the syndrome 0 is true as it stands
+pub clean : (w : ℕ) → w < 2 ^ 64 → syndrome w ≡ 0 → Reads 64 w (word w)
+clean w fits e = (syndrome-true 64 w (omega arith) fits e, undamaged w)
+
+module _ (w : ℕ) (fits : w < 2 ^ 64) (v : ℕ) (flips : Flips (syndrome w % 4096) v) where
   abbrev s : ℕ
   s = syndrome w
 
-  abbrev v : ℕ
-  v = getD flips (s % 4096) 0
-
-  -- a flaw with that syndrome is few enough for the entry, which names its places
+  -- a flaw with that syndrome is few enough for v, which names its places
   answered : (e : ℕ) → Flaw 64 s e → leb (countsOf v + lastBit v s) 2 ≡ true
   answered e p =
       let parts = syndrome-parts e s (p .leaves) in
-      let n = rw (parts .0) at (table .named (e / 2) (half-lt 63 (p .within)) (code-few e (p .few))) in
+      let n = flips .named (e / 2) (half-lt 63 (p .within)) (code-few e (p .few)) (parts .0) in
       le-leb (countsOf v + lastBit v s) 2 (subst (λ (x : ℕ). x ≤ 2) (sym (whole e (countsOf v) (s / 4096) (n .1) (sym (parts .1)))) (p .few))
 
   go : (b : Bool) → leb (countsOf v + lastBit v s) 2 ≡ b → Reads 64 w (cond b (word (bitXor w (bitXor (bitsOf v) (lastBit v s)))) unreadable)
   go true q =
-      let n = table .sound (s % 4096) (omega arith) (omega (arith, leb-true (countsOf v + lastBit v s) 2 q)) in
+      let n = flips .sound (omega (arith, leb-true (countsOf v + lastBit v s) 2 q)) in
       flaw-near 64 w (omega arith) fits (bitXor (bitsOf v) (lastBit v s)) (proposed v s (syndrome-lt w) (n .0) (n .1) q)
   go false q = λ u t d. true≢false (sym (answered (bitXor w u) (near-flaw 64 w (omega arith) fits u t d)) ∙ q)
 
-  damaged : Reads 64 w (mendedBy flips w s)
+  pub damaged : Reads 64 w (mendedAs v w s)
   damaged = go (leb (countsOf v + lastBit v s) 2) refl
 
-  -- a syndrome of 0 needs no table
-  clean : (b : Bool) → eqb s 0 ≡ b → Reads 64 w (cond b (word w) (mendedBy flips w s))
-  clean true e = (syndrome-true 64 w (omega arith) fits (eqb-true s 0 e), undamaged w)
-  clean false e = damaged
-
-  lent : (syndromes : List ℕ) (o : ℕ) → syndromeBy syndromes o 0 w ≡ s → Reads 64 w (readingBy syndromes flips o w)
-  lent syndromes o e = rw e (clean (eqb s 0) refl)
+  -- a syndrome of 0 needs no mending
+  pub told : Reads 64 w (cond (eqb s 0) (word w) (mendedAs v w s))
+  told = either (eqb s 0) refl
+    where
+      either : (b : Bool) → eqb s 0 ≡ b → Reads 64 w (cond b (word w) (mendedAs v w s))
+      either true e = clean w fits (eqb-true s 0 e)
+      either false e = damaged
 
 -- a word of 32 bits is one of 64 whose upper half is 0, and stays so
-short : (w : ℕ) → w < 2 ^ 32 → (r : Reading) → Reads 64 w r → Reads 32 w (sent r)
+pub short : (w : ℕ) → w < 2 ^ 32 → (r : Reading) → Reads 64 w r → Reads 32 w (sent r)
 short w h (word v) a = go (ltb v (2 ^ 32)) refl
   where
     wide : (u : ℕ) → TrueWord 32 u → TrueWord 64 u
@@ -95,19 +93,3 @@ short w h (word v) a = go (ltb v (2 ^ 32)) refl
         let same : u ≡ v = one-near 64 w (omega arith) (lt-of-lt-of-le h (lit≤ tt)) u v (wide u t) d (a .0) (a .1) in
         omega (arith, ltb-false v (2 ^ 32) e, t .fits)
 short w h unreadable a = λ u t d. a u (record { fits = lt-of-lt-of-le (t .fits) (lit≤ tt); code = t .code; even = t .even }) d
-
-module _ (syndromes flips : List ℕ) (a : Syndromes syndromes) (b : Flips flips) (w : ℕ) where
-  pub lent-reads64 : w < 2 ^ 64 → Reads 64 w (readingBy syndromes flips 8 w)
-  lent-reads64 h = lent flips b w h syndromes 8 (word-syndrome syndromes a 7 w (omega arith) h)
-
-  pub lent-reads32 : w < 2 ^ 32 → Reads 32 w (sent (readingBy syndromes flips 4 w))
-  lent-reads32 h =
-      short w h (readingBy syndromes flips 4 w)
-      (lent flips b w (lt-of-lt-of-le h (lit≤ tt)) syndromes 4 (word-syndrome syndromes a 3 w (omega arith) h))
-
-  -- the laws for those who lend the true tables
-  pub lent64 : w < 2 ^ 64 → readingBy syndromes flips 8 w ≡ reading 64 w
-  lent64 h = is-reading 64 w (omega arith) h (readingBy syndromes flips 8 w) (lent-reads64 h)
-
-  pub lent32 : w < 2 ^ 32 → sent (readingBy syndromes flips 4 w) ≡ reading 32 w
-  lent32 h = is-reading 32 w (omega arith) h (sent (readingBy syndromes flips 4 w)) (lent-reads32 h)
