@@ -80,6 +80,11 @@ module _ (w : ℕ) (fits : w < 2 ^ 64) (v : ℕ) (flips : Flips (syndrome w % 40
       either true e = clean w fits (eqb-true s 0 e)
       either false e = damaged
 
+-- so what comes of a word, its syndrome and what that flips is its reading
+pub mended : (w s v : ℕ) (x : Reading) → w < 2 ^ 64 → s ≡ syndrome w → Flips (s % 4096) v → x ≡ mendedAs v w s → Reads 64 w x
+mended w s v x fits e flips made =
+    subst (Reads 64 w) (sym (made ∙ ap (mendedAs v w) e)) (damaged w fits v (subst (λ (y : ℕ). Flips (y % 4096) v) e flips))
+
 -- a word of 32 bits is one of 64 whose upper half is 0, and stays so
 pub short : (w : ℕ) → w < 2 ^ 32 → (r : Reading) → Reads 64 w r → Reads 32 w (sent r)
 short w h (word v) a = go (ltb v (2 ^ 32)) refl

@@ -48,10 +48,11 @@ pub fn read64(word: u64) -> Reading64
     if s == 0 {
         return Reading64::Word(Word64(word));
     }
-    damage::mend(word, s)
+    damage::mend(flips::flips(s), word, s)
 }
 
-// The same by what each octet adds, for a walk over map or payload: eight looks into tables for 63 sums.
+// The same by what each octet adds, for a walk over map or payload: eight looks into tables for 63 sums. What calls a table
+// twice keeps it a function of its own, which answers in a register, and this one is merged into the walk.
 pub fn read64_by_octets(word: u64) -> Reading64
     ensures { λ r. ⌜ Reads 64 word (found64 r) ⌝ }
 {
@@ -59,7 +60,7 @@ pub fn read64_by_octets(word: u64) -> Reading64
     if s == 0 {
         return Reading64::Word(Word64(word));
     }
-    damage::mend(word, s)
+    damage::mend(flips::flips(s), word, s)
 }
 
 // The true word of 32 bits at most two bits away: a word of 64 with 32 zeros in front. These are not sent, and a repair that
@@ -67,7 +68,11 @@ pub fn read64_by_octets(word: u64) -> Reading64
 pub fn read32(word: u32) -> Reading32
     ensures { λ r. ⌜ Reads 32 word (found32 r) ⌝ }
 {
-    let read = read64(word as u64);
+    let s = syndromes::syndrome(word as u64);
+    if s == 0 {
+        return Reading32::Word(Word32(word));
+    }
+    let read = damage::mend(flips::flips(s), word as u64, s);
     match read {
         Reading64::Word(w) => {
             let v = w.0;
