@@ -52,7 +52,7 @@ pub(crate) fn allocation_at(map: &[u8], i: usize) -> Allocation
     ensures { λ r. ⌜ r ≡ allocationAt (now (map .entry)) i ⌝ }
 {
     let at = search::STRUCTURE_OCTETS * i;
-    match xgtc::allocation::read_allocation(&map[at..]) {
+    match entries::reading::read_entry(&map[at..]) {
         AllocationRead::Fields(a) => a,
         AllocationRead::Unreadable => no_allocation(),
         AllocationRead::Short => no_allocation(),

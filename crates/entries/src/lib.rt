@@ -1,5 +1,5 @@
 // The entries of the bandwidth map (clause 8.1.2), each by itself: read, usable or not, and whose it is.
-mod reading;
+pub mod reading;
 
 use ids::AllocId;
 use ids::OnuId;

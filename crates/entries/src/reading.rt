@@ -1,5 +1,5 @@
-// An entry read in a walk over a map. This has one caller, so that the compiler merges it into the walk's loop; xgtc reads
-// for all others.
+// An entry of a map that is walked: by octets, and with no test before the word is loaded, so that the compiler merges it into the
+// walk's loop. xgtc reads a structure by itself.
 use hec::Reading64;
 use xgtc::allocation::Allocation;
 use xgtc::allocation::AllocationRead;
@@ -19,7 +19,7 @@ fn found(read: Reading64) -> AllocationRead
 }
 
 // The entry at the start of a slice.
-pub(crate) fn read_entry(s: &[u8]) -> AllocationRead
+pub fn read_entry(s: &[u8]) -> AllocationRead
     ensures { λ r. ⌜ foundAllocation r ≡ readAllocation (now (s .entry)) ⌝ }
 {
     let read = hec::read64_by_octets(framing::word_ahead(s));

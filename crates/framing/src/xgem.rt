@@ -93,7 +93,7 @@ pub fn read_xgem(s: &[u8]) -> XgemRead
     if s.len() < 8 {
         return XgemRead::Short;
     }
-    found(hec::read64(octets::word64(s)))
+    found(hec::read64_by_octets(octets::word64(s)))
 }
 
 // The XGEM header of the fields given, at the start of a target.

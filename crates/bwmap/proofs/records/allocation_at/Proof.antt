@@ -13,17 +13,17 @@ use Rattle.bwmap.proofs.records.allocation_at.Tie as tie
 mul-at : tie.Need-mul-at
 mul-at c = search needs
 
-sub-read-allocation : tie.Need-sub-read-allocation
-sub-read-allocation c = search needs
+sub-read-entry : tie.Need-sub-read-entry
+sub-read-entry c = search needs
 
-part-read-allocation-start : tie.Need-part-read-allocation-start
-part-read-allocation-start c = search needs
+part-read-entry-start : tie.Need-part-read-entry-start
+part-read-entry-start c = search needs
 
-part-read-allocation-end : tie.Need-part-read-allocation-end
-part-read-allocation-end c = search needs
+part-read-entry-end : tie.Need-part-read-entry-end
+part-read-entry-end c = search needs
 
-read-allocation-requires : tie.Need-read-allocation-requires
-read-allocation-requires c κs = search needs
+read-entry-requires : tie.Need-read-entry-requires
+read-entry-requires c κs = search needs
 
 enum-known-a : tie.Need-enum-known-a
 enum-known-a c = search needs
@@ -44,29 +44,29 @@ returns : tie.Need-returns
 unfolding allocationAt
 returns c =
     let a = c .before .before .before .before .before .before .args in
-    sym (ap (λ (x : AllocationRead). fieldsOf (foundAllocation x)) (c .before .a .given .1)) ∙ ap fieldsOf (c .before .before .before .read-allocation .ensures ∙ read-entry (now (a .map)) (a .i))
+    sym (ap (λ (x : AllocationRead). fieldsOf (foundAllocation x)) (c .before .a .given .1)) ∙ ap fieldsOf (c .before .before .before .read-entry .ensures ∙ read-entry (now (a .map)) (a .i))
 
 returns-2 : tie.Need-returns-2
 unfolding allocationAt
 returns-2 c =
     let a = c .before .before .before .before .before .before .args in
-    c .no-allocation .ensures ∙ sym (ap (λ (x : AllocationRead). fieldsOf (foundAllocation x)) (c .before .enum-told .given .1)) ∙ ap fieldsOf (c .before .before .before .read-allocation .ensures ∙ read-entry (now (a .map)) (a .i))
+    c .no-allocation .ensures ∙ sym (ap (λ (x : AllocationRead). fieldsOf (foundAllocation x)) (c .before .enum-told .given .1)) ∙ ap fieldsOf (c .before .before .before .read-entry .ensures ∙ read-entry (now (a .map)) (a .i))
 
 returns-3 : tie.Need-returns-3
 unfolding allocationAt
 returns-3 c =
     let a = c .before .before .before .before .before .before .args in
-    c .no-allocation2 .ensures ∙ sym (ap (λ (x : AllocationRead). fieldsOf (foundAllocation x)) (c .before .enum-told2 .given .1)) ∙ ap fieldsOf (c .before .before .before .read-allocation .ensures ∙ read-entry (now (a .map)) (a .i))
+    c .no-allocation2 .ensures ∙ sym (ap (λ (x : AllocationRead). fieldsOf (foundAllocation x)) (c .before .enum-told2 .given .1)) ∙ ap fieldsOf (c .before .before .before .read-entry .ensures ∙ read-entry (now (a .map)) (a .i))
 
 pub allocation-at-spec : {M : Type 1} → statement M
 allocation-at-spec =
     tie.close
     (tie.spec
     mul-at
-    sub-read-allocation
-    part-read-allocation-start
-    part-read-allocation-end
-    read-allocation-requires
+    sub-read-entry
+    part-read-entry-start
+    part-read-entry-end
+    read-entry-requires
     enum-known-a
     enum-told
     no-allocation-requires
