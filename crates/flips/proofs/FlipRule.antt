@@ -2,11 +2,11 @@
 -- entry at a pattern's remainder names its places, so that no two of these patterns have one remainder. And over all 4,096
 -- entries: what names at most two places stands at their remainder.
 -- Assumes nothing.
-use mathlib.Core.Path.{_≡_, refl, sym, ap, ap₂, _∙_, subst}
+use mathlib.Core.Path.{_≡_, refl, sym, ap, _∙_, subst}
 use mathlib.Core.Bool.{Bool, true, false, cond, _&&_}
 use mathlib.Core.List.{List, [], _∷_, _++_}
 use Prim.Native.Nat.{ℕ, zero, suc, _+_, _*_, _/_, _%_, _^_, _≤_, _<_}
-use native.Mathlib.Nat.{zero-mul, one-mul, add-mul, mul-assoc, mul-comm, mul-zero, add-zero, mul-one, zero-add, add-suc, suc-add, le-of-suc-le-suc, not-suc-le-zero}
+use native.Mathlib.Nat.{zero-mul, one-mul, add-mul, mul-assoc, mul-comm, add-zero, zero-add, add-suc, suc-add, le-of-suc-le-suc, not-suc-le-zero}
 use native.Mathlib.Omega.{arith}
 use lib.Arith.{lt-one, le-zero}
 use lib.Bits.{bitXor, xor-zero-r, xor-zero-l}

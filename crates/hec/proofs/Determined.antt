@@ -1,9 +1,9 @@
 -- No second outcome meets the contract of a public function: for each, any two that do are equal.
 -- Assumes nothing.
 use mathlib.Core.Path.{_≡_, refl, ap}
-use Prim.Native.Nat.{ℕ, _^_, _≤_, _<_}
+use Prim.Native.Nat.{ℕ, _^_, _<_}
 use native.Mathlib.Omega.{arith}
-use Rattle.hec.specs.Reads.{Reading, word, unreadable, Reads, found32, found64}
+use Rattle.hec.specs.Reads.{Reads, found32, found64}
 use Rattle.hec.specs.Writes.{Written}
 use Rattle.hec.specs.declared.Word32.{Word32}
 use Rattle.hec.specs.declared.Word64.{Word64}

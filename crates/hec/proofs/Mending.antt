@@ -1,22 +1,19 @@
 -- A word that is mended by what its remainder flips is read: that is the flaw, and where nothing is named there is none.
 -- Assumes nothing.
-use mathlib.Core.Path.{_≡_, refl, sym, ap, ap₂, _∙_, subst}
+use mathlib.Core.Path.{_≡_, refl, sym, ap, _∙_, subst}
 use mathlib.Core.Bool.{Bool, true, false, cond, true≢false}
-use Prim.Native.Nat.{ℕ, zero, suc, _+_, _-_, _*_, _/_, _%_, _^_, _≤_, _<_}
-use native.Mathlib.Nat.{one-mul, add-zero, lt-of-lt-of-le, mul-comm, pow-suc}
-use native.Mathlib.Decide.{decLt}
+use Prim.Native.Nat.{ℕ, _+_, _-_, _/_, _%_, _^_, _≤_, _<_}
+use native.Mathlib.Nat.{lt-of-lt-of-le}
 use native.Mathlib.Omega.{arith}
-use borrow.Author.Tests.{lt-ltb, le-ltb, eq-eqb, eqb-true, eqb-false, le-leb, leb-true, ltb-true, ltb-false}
-use lib.Dec.{eqb, leb, ltb, lit<, lit≤}
-use lib.Pow.{pow-pos, pow-lt, pow-mono, shl-exact}
+use borrow.Author.Tests.{eqb-true, le-leb, leb-true, ltb-true, ltb-false}
+use lib.Dec.{eqb, leb, ltb, lit≤}
 use lib.Bits.{bitXor, xor-lt, xor-zero-r}
-use lib.Count.{ones, ones-step, ones-cat, ones-ones}
-use lib.ListN.{getD}
-use Rattle.bch.specs.Code.{TrueWord, distance, place, remainder}
+use lib.Count.{ones, ones-step}
+use Rattle.bch.specs.Code.{TrueWord, remainder}
 use Rattle.hec.specs.Reads.{Reading, word, unreadable, Reads}
 use Rattle.bch.specs.Tables.{syndrome, Flips, bitsOf, countsOf}
 use Rattle.hec.specs.Mends.{lastBit, mendedAs, sent}
-use Rattle.bch.proofs.Xor.{bit, xor-half, xor-cancel}
+use Rattle.bch.proofs.Xor.{bit, xor-half}
 use Rattle.bch.proofs.Ones.{half-lt, ones-bit, ones-xor-le, ones-xor-odd}
 use Rattle.bch.proofs.Places.{bits-within}
 use Rattle.bch.proofs.Syndrome.{syndrome-parts, syndrome-made, syndrome-true, syndrome-lt}

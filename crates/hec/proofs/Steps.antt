@@ -5,7 +5,6 @@ use native.Mathlib.Omega.{arith}
 use Prim.Native.Nat.{ℕ, _+_, _/_, _%_, _^_, _≤_, _<_}
 use borrow.Author.Tests.{le-leb, lt-leb, lt-ltb, le-ltb}
 use lib.Bits.{bitXor}
-use lib.Dec.{leb}
 use Rattle.hec.specs.Reads.{Reading, word, unreadable}
 use Rattle.bch.specs.Tables.{bitsOf, countsOf}
 use Rattle.hec.specs.Mends.{lastBit, mendedAs, sent}

@@ -1,7 +1,7 @@
 -- The header fact, once, over the width: at most one true word of n bits is at most two bits away, so `Reads` settles what
 -- a word reads as, and a true word is read back with up to two of its bits flipped.
 -- Assumes nothing.
-use mathlib.Core.Path.{_≡_, refl, sym, ap, ap₂, _∙_, subst}
+use mathlib.Core.Path.{_≡_, refl, sym, ap, _∙_}
 use Prim.Native.Nat.{ℕ, zero, suc, _+_, _-_, _*_, _/_, _%_, _^_, _≤_, _<_}
 use native.Mathlib.Nat.{lt-of-lt-of-le}
 use native.Mathlib.Omega.{arith}

@@ -51,8 +51,8 @@ pub fn read64(word: u64) -> Reading64
     damage::mend(flips::flips(s), word, s)
 }
 
-// The same by what each octet adds, for a walk over map or payload: eight looks into tables for 63 sums. What calls a table
-// twice keeps it a function of its own, which answers in a register, and this one is merged into the walk.
+// The same by what each octet adds, for a walk over map or payload: eight looks into tables for 63 sums. `syndrome` and `flips`
+// have more callers than one and so stay functions, which answer in a register, and this one is merged into the walk.
 pub fn read64_by_octets(word: u64) -> Reading64
     ensures { λ r. ⌜ Reads 64 word (found64 r) ⌝ }
 {

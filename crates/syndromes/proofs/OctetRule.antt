@@ -1,21 +1,21 @@
 -- The rule of the two tables of octets, by one test of each that antt computes: in each lane the upper half is the lower one
 -- plus the syndrome of one bit, and so on down.
 -- Assumes nothing.
-use mathlib.Core.Path.{_≡_, refl, sym, ap, ap₂, _∙_, subst}
+use mathlib.Core.Path.{_≡_, sym, ap, ap₂, _∙_, subst}
 use mathlib.Core.Bool.{Bool, true, false, _&&_}
 use mathlib.Core.List.{List, [], _∷_, map}
 use Prim.Native.Nat.{ℕ, zero, suc, _+_, _-_, _*_, _/_, _%_, _^_, _≤_, _<_}
-use native.Mathlib.Nat.{zero-mul, one-mul, add-mul, mul-comm, add-zero, zero-add, add-suc, suc-add, add-assoc, pow-suc, le-of-suc-le-suc, not-suc-le-zero, lt-of-lt-of-le}
+use native.Mathlib.Nat.{zero-mul, one-mul, add-mul, add-zero, zero-add, pow-suc, le-of-suc-le-suc, not-suc-le-zero}
 use native.Mathlib.Decide.{decLt}
 use native.Mathlib.Omega.{arith}
-use lib.Arith.{lt-one, digits-lt}
+use lib.Arith.{lt-one}
 use lib.Pow.{pow-pos, pow-add}
 use lib.Bits.{bitXor, xor-shifted}
 use lib.Count.{ones, ones-cat, ones-ones}
 use lib.Dec.{T, eqb, eqb→eq}
 use lib.ListN.{length, getD, take, drop, List·getD-map}
 use lib.Seq.{getD-take, getD-drop}
-use Rattle.bch.specs.Code.{place, remainder}
+use Rattle.bch.specs.Code.{remainder}
 use Rattle.bch.specs.Tables.{syndrome}
 use Rattle.tables.specs.Tables.{lane}
 use Rattle.tables.proofs.Entries.{lane-zero}

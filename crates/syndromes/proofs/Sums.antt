@@ -1,7 +1,7 @@
 -- The sum over the octets of a word's two halves is the word's syndrome.
 -- Assumes nothing.
-use mathlib.Core.Path.{_≡_, refl, sym, ap, ap₂, _∙_, subst}
-use Prim.Native.Nat.{ℕ, zero, suc, _+_, _-_, _*_, _/_, _%_, _^_, _≤_, _<_}
+use mathlib.Core.Path.{_≡_, sym, ap, ap₂, _∙_, subst}
+use Prim.Native.Nat.{ℕ, zero, suc, _+_, _-_, _*_, _/_, _%_, _^_, _<_}
 use native.Mathlib.Nat.{add-mul, mul-assoc, mul-comm, mul-one, zero-mul, pow-suc}
 use native.Mathlib.Omega.{arith}
 use lib.Arith.{lt-one}

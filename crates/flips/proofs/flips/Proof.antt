@@ -1,7 +1,7 @@
 -- `flips::flips` meets its contract, by the rule of both tables.
 -- Assumes nothing.
 use mathlib.Core.Path.{_≡_, sym, ap₂, _∙_, subst}
-use Prim.Native.Nat.{ℕ, _%_}
+use Prim.Native.Nat.{_%_}
 use native.Mathlib.Omega.{arith}
 use Rattle.bch.specs.Tables.{Flips}
 use Rattle.tables.specs.Tables.{lane}

@@ -1,7 +1,6 @@
 -- `syndromes::syndrome` meets its contract: what is in the sum and what is left of both halves are the word's syndrome.
 -- Assumes nothing.
-use mathlib.Core.Path.{_≡_, _∙_}
-use Prim.Native.Nat.{ℕ, suc, _-_, _≤_, _<_}
+use Prim.Native.Nat.{_-_, _≤_}
 use native.Mathlib.Omega.{arith}
 use Rattle.syndromes.proofs.Sums.{Summed, first, next, last}
 use borrow.Author.Needs.{needs}
