@@ -36,3 +36,15 @@ library() {
         fi
     ) 9> target/library.lock
 }
+
+# Of the customer's requests the independent engine is built with the first so many: those that have landed here.
+peer_level=0
+
+# peer_program NAME FOLDER [WORDS...]: FOLDER/NAME, of bench/src/NAME.rs and the independent engine, as that engine's own release
+# profile has it: a yardstick built with less would flatter what is held against it.
+peer_program() {
+    local name=$1 folder=$2 words=(--edition 2021 -C opt-level=3 -C codegen-units=1 -C panic=abort)
+    shift 2
+    "${rustc_x86[@]}" "${words[@]}" -A warnings --cfg "level=\"$peer_level\"" --crate-type rlib --crate-name xgpon_peer bench/peer/src/lib.rs -o "$folder/libxgpon_peer.rlib"
+    "${rustc_x86[@]}" "${words[@]}" -C lto=fat "bench/src/$name.rs" --extern xgpon_peer="$folder/libxgpon_peer.rlib" "$@" -o "$folder/$name"
+}

@@ -7,6 +7,7 @@ use xgpon_peer::hec;
 extern "C" {
     fn bench_read32(words: *const u32, len: usize) -> u32;
     fn bench_read64(words: *const u64, len: usize) -> u64;
+    fn bench_read64_plain(words: *const u64, len: usize) -> u64;
 }
 
 const WORDS: usize = 4096;
@@ -17,6 +18,11 @@ fn ours32(words: &[u32]) -> u32 {
 
 fn ours64(words: &[u64]) -> u64 {
     unsafe { bench_read64(words.as_ptr(), words.len()) }
+}
+
+/// By the 63 check values, where `ours64` goes by octets.
+fn ours64_plain(words: &[u64]) -> u64 {
+    unsafe { bench_read64_plain(words.as_ptr(), words.len()) }
 }
 
 fn peer32(words: &[u32]) -> u32 {
@@ -67,11 +73,16 @@ pub fn run(measure: bool) {
     for (name, words) in kinds(&mut rng, 64) {
         for w in &words {
             assert_eq!(ours64(&[*w]), peer64(&[*w]), "{w:016x}");
+            assert_eq!(ours64_plain(&[*w]), peer64(&[*w]), "{w:016x}");
         }
         assert_eq!(ours64(&words), peer64(&words));
         if measure {
             let name = format!("64-bit read, {name}");
             compare(&name, WORDS, || { black_box(peer64(black_box(&words))); }, || { black_box(ours64(black_box(&words))); });
+            if name.ends_with("mixed") {
+                let name = "64-bit word by itself, mixed";
+                compare(name, WORDS, || { black_box(peer64(black_box(&words))); }, || { black_box(ours64_plain(black_box(&words))); });
+            }
         }
     }
     for (name, words) in kinds(&mut rng, 32) {
@@ -89,6 +100,7 @@ pub fn run(measure: bool) {
     for _ in 0..200_000 {
         let w = rng.next();
         assert_eq!(ours64(&[w]), peer64(&[w]), "{w:016x}");
+        assert_eq!(ours64_plain(&[w]), peer64(&[w]), "{w:016x}");
         assert_eq!(ours32(&[w as u32]), peer32(&[w as u32]), "{:08x}", w as u32);
     }
 }

@@ -3,7 +3,6 @@ ghost use mathlib.Core.Bool.{Bool};
 ghost use mathlib.Core.Path.{_≡_};
 ghost use Prim.Native.Nat.{_-_, _/_};
 ghost use lib.ListN.{length};
-ghost use Rattle.aes.specs.MixTable.{mixTable};
 ghost use Rattle.cmac.specs.ByTable.{Ready};
 ghost use Rattle.link.specs.Limits.{keyOctets};
 ghost use Rattle.effects.specs.Effects.{ignored};
@@ -132,10 +131,9 @@ fn prepared(t: &[u32; 1024], octets: [u8; 16]) -> Prepared
     cmac::prepare(t, octets)
 }
 
-// What follows the last whole message is not looked at. No key is prepared where no message may act. The table of AES is
-// lent: whoever has named it for other messages lends it on.
-pub fn receive_all_by(t: &[u32; 1024], s: Station, messages: &[u8]) -> Station
-    requires { ⌜ now t ≡ mixTable ⌝ }
+// What follows the last whole message is not looked at. No key is prepared, and the table of AES not named, where no message
+// may act.
+pub fn receive_all(s: Station, messages: &[u8]) -> Station
     ensures { λ r. ⌜ AllReceived s (now (messages .entry)) r ⌝ }
 {
     let link = s.link;
@@ -145,20 +143,13 @@ pub fn receive_all_by(t: &[u32; 1024], s: Station, messages: &[u8]) -> Station
     if messages.len() / MESSAGE_OCTETS <= first {
         return s;
     }
+    let t = aes::mix::table();
     let usual = integrity::default_key();
     let key = link.key;
     let octets = key.octets;
     if key.held {
-        let installed = prepared(t, octets);
-        return receive_each(t, usual, installed, s, messages, first);
+        let installed = prepared(&t, octets);
+        return receive_each(&t, usual, installed, s, messages, first);
     }
-    receive_each(t, usual, usual, s, messages, first)
-}
-
-// The same by a table that is named here.
-pub fn receive_all(s: Station, messages: &[u8]) -> Station
-    ensures { λ r. ⌜ AllReceived s (now (messages .entry)) r ⌝ }
-{
-    let t = aes::mix::table();
-    receive_all_by(&t, s, messages)
+    receive_each(&t, usual, usual, s, messages, first)
 }

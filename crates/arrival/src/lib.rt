@@ -3,11 +3,9 @@ ghost use mathlib.Core.Path.{_≡_};
 ghost use mathlib.Core.Bool.{true};
 ghost use Prim.Native.Nat.{_+_, _≤_};
 ghost use lib.ListN.{length};
-ghost use Rattle.aes.specs.MixTable.{mixTable};
 ghost use Rattle.xgtc.specs.Reads.{readHlend};
 ghost use Rattle.ranges.specs.Ranges.{inRange};
 ghost use Rattle.bwmap.specs.Limits.{planNumbers};
-ghost use Rattle.bwmap.specs.Tables.{Tables};
 ghost use Rattle.bwmap.specs.Plan.{counted, written};
 ghost use Rattle.series.specs.Series.{plannedOf};
 ghost use Rattle.payload.specs.Walk.{memoryBytes};
@@ -15,13 +13,11 @@ ghost use Rattle.arrival.specs.Lengths.{lengthFits, buffersFit};
 ghost use Rattle.arrival.specs.Partitions.{headerEnd};
 ghost use Rattle.arrival.specs.Frame.{isOperating, isRanging, without, answerTo, planOf, ownOf, walkedFrom, handled, byHlend, FrameLeaves};
 
-mod fitness;
 pub mod lengths;
 pub mod partitions;
 
 use bwmap::Plan;
 use entries::Own;
-use fitness::Fitness;
 use payload::Delineation;
 use payload::Received;
 use station::Activation;
@@ -104,14 +100,8 @@ fn plan_of(answer: bwmap::Answer) -> Plan
 }
 
 // The plan follows the state in which the frame arrived.
-fn plan_bursts(
-    syndromes: &[u16; 2048],
-    flips: &[u16; 4096],
-    s: Station,
-    map: &[u8],
-    plan: &mut [u16],
-) -> Plan
-    requires { ⌜ Tables (now syndromes) (now flips) × (planNumbers ≤ length (now plan)) ⌝ }
+fn plan_bursts(s: Station, map: &[u8], plan: &mut [u16]) -> Plan
+    requires { ⌜ planNumbers ≤ length (now plan) ⌝ }
     ensures { λ r. ⌜ (r ≡ counted (s .carried) (plannedOf (ownOf s) (now (map .entry)) (s .carried)))
         × (now (plan .exit) ≡ written (plannedOf (ownOf s) (now (map .entry)) (s .carried)) (now (plan .entry))) ⌝ }
 {
@@ -124,20 +114,18 @@ fn plan_bursts(
         onu: onu,
         allocs: allocs,
     };
-    plan_of(bwmap::plan_map_by(syndromes, flips, map, own, s.carried, plan))
+    plan_of(bwmap::plan_map(map, own, s.carried, plan))
 }
 
 // Only a frame that arrives in O5 has its payload walked.
 fn receive_payload(
-    syndromes: &[u16; 2048],
-    flips: &[u16; 4096],
     s: Station,
     place: usize,
     payload: &[u8],
     memory: &mut [u8],
     deliveries: &mut [u8],
 ) -> Received
-    requires { ⌜ Tables (now syndromes) (now flips) × (inRange s ≡ true) × (memoryBytes ≤ length (now memory)) × (length (now payload) + memoryBytes ≤ length (now deliveries)) ⌝ }
+    requires { ⌜ (inRange s ≡ true) × (memoryBytes ≤ length (now memory)) × (length (now payload) + memoryBytes ≤ length (now deliveries)) ⌝ }
     ensures { λ r. ⌜ record { receiver = record { ports = r .ports; bytes = r .bytes; memory = now (memory .exit); deliveries = now (deliveries .exit) }; delineation = r .delineation } ≡ walkedFrom s place (now (payload .entry)) (now (memory .entry)) (now (deliveries .entry)) ⌝ }
 {
     let ports = s.ports;
@@ -151,9 +139,7 @@ fn receive_payload(
     }
     let link = s.link;
     let onu = link.onu;
-    payload::receive_by(
-        syndromes,
-        flips,
+    payload::receive(
         ports,
         onu.management_port(),
         memory,
@@ -165,9 +151,6 @@ fn receive_payload(
 
 // The header was read and lies within the frame: (a) plan, replies and deliveries, (b) the messages, (c) the frame's end.
 fn handle(
-    syndromes: &[u16; 2048],
-    flips: &[u16; 4096],
-    mix: &[u32; 1024],
     s: Station,
     h: Hlend,
     memory: &mut [u8],
@@ -177,23 +160,17 @@ fn handle(
     replies: &mut [u8],
     deliveries: &mut [u8],
 ) -> Outcome
-    requires { ⌜ Tables (now syndromes) (now flips) × (now mix ≡ mixTable) × (inRange s ≡ true) × (headerEnd h ≤ length (now frame)) × (buffersFit (length (now frame)) (record { memory = now memory; plan = now plan; replies = now replies; deliveries = now deliveries }) ≡ true) ⌝ }
+    requires { ⌜ (inRange s ≡ true) × (headerEnd h ≤ length (now frame)) × (buffersFit (length (now frame)) (record { memory = now memory; plan = now plan; replies = now replies; deliveries = now deliveries }) ≡ true) ⌝ }
     ensures { λ r. ⌜ record { outcome = r; lent = record { memory = now (memory .exit); plan = now (plan .exit); replies = now (replies .exit); deliveries = now (deliveries .exit) } } ≡ handled s h (now (frame .entry)) delay (record { memory = now (memory .entry); plan = now (plan .entry); replies = now (replies .entry); deliveries = now (deliveries .entry) }) ⌝ }
 {
     let map = partitions::map_end(h);
     let end = partitions::header_end(h);
-    let p = plan_bursts(
-        syndromes,
-        flips,
-        s,
-        &frame[partitions::HLEND_OCTETS..map],
-        plan,
-    );
-    let sent = replies::reply_all_by(mix, s, p.messages, delay, replies);
-    let r = receive_payload(syndromes, flips, s, end, &frame[end..], memory, deliveries);
+    let p = plan_bursts(s, &frame[partitions::HLEND_OCTETS..map], plan);
+    let sent = replies::reply_all(s, p.messages, delay, replies);
+    let r = receive_payload(s, end, &frame[end..], memory, deliveries);
     let ports = r.ports;
     let found = sent.with_ports(ports).with_carried(p.carried);
-    let acted = activation::receive_all_by(mix, found, &frame[map..end]);
+    let acted = activation::receive_all(found, &frame[map..end]);
     let arrived = s.activation;
     let ended = timing::frame_end(acted, is_ranging(arrived));
     let delineation = r.delineation;
@@ -208,9 +185,6 @@ fn handle(
 
 // The call is fit: 4, 5, or the frame as its header says.
 fn by_hlend(
-    syndromes: &[u16; 2048],
-    flips: &[u16; 4096],
-    mix: &[u32; 1024],
     s: Station,
     memory: &mut [u8],
     frame: &[u8],
@@ -219,27 +193,15 @@ fn by_hlend(
     replies: &mut [u8],
     deliveries: &mut [u8],
 ) -> Outcome
-    requires { ⌜ Tables (now syndromes) (now flips) × (now mix ≡ mixTable) × (inRange s ≡ true) × (buffersFit (length (now frame)) (record { memory = now memory; plan = now plan; replies = now replies; deliveries = now deliveries }) ≡ true) ⌝ }
+    requires { ⌜ (inRange s ≡ true) × (buffersFit (length (now frame)) (record { memory = now memory; plan = now plan; replies = now replies; deliveries = now deliveries }) ≡ true) ⌝ }
     ensures { λ r. ⌜ record { outcome = r; lent = record { memory = now (memory .exit); plan = now (plan .exit); replies = now (replies .exit); deliveries = now (deliveries .exit) } } ≡ byHlend (readHlend (now (frame .entry))) s (now (frame .entry)) delay (record { memory = now (memory .entry); plan = now (plan .entry); replies = now (replies .entry); deliveries = now (deliveries .entry) }) ⌝ }
 {
-    match xgtc::hlend::read_hlend_by(syndromes, flips, frame) {
+    match xgtc::hlend::read_hlend(frame) {
         HlendRead::Fields(h) => {
             if frame.len() < partitions::header_end(h) {
                 return without(Answer::HeaderTooLong, timing::unread_time(s));
             }
-            handle(
-                syndromes,
-                flips,
-                mix,
-                s,
-                h,
-                memory,
-                frame,
-                delay,
-                plan,
-                replies,
-                deliveries,
-            )
+            handle(s, h, memory, frame, delay, plan, replies, deliveries)
         }
         HlendRead::Unreadable => without(Answer::HlendUnreadable, timing::unread_time(s)),
         HlendRead::Short => without(Answer::HlendUnreadable, timing::unread_time(s)),
@@ -247,48 +209,7 @@ fn by_hlend(
 }
 
 // The frame of this frame time, with the random delay of Serial_Number_ONU in bit times. Answers 0 to 6, tested in that
-// order; the counts are 0 after 1 to 5. The tables are lent: a table that is named is copied, so that a program of many
-// calls names each once.
-pub fn frame_by(
-    syndromes: &[u16; 2048],
-    flips: &[u16; 4096],
-    mix: &[u32; 1024],
-    s: Station,
-    memory: &mut [u8],
-    frame: &[u8],
-    delay: u32,
-    plan: &mut [u16],
-    replies: &mut [u8],
-    deliveries: &mut [u8],
-) -> Outcome
-    requires { ⌜ Tables (now syndromes) (now flips) × (now mix ≡ mixTable) ⌝ }
-    ensures { λ r. ⌜ FrameLeaves s (now (frame .entry)) delay (record { memory = now (memory .entry); plan = now (plan .entry); replies = now (replies .entry); deliveries = now (deliveries .entry) }) r (record { memory = now (memory .exit); plan = now (plan .exit); replies = now (replies .exit); deliveries = now (deliveries .exit) }) ⌝ }
-{
-    match fitness::fitness_of(
-        ranges::in_range(s),
-        frame.len(),
-        memory.len(),
-        plan.len(),
-        replies.len(),
-        deliveries.len(),
-    ) {
-        Fitness::Refused(answer) => without(answer, s),
-        Fitness::Fit => by_hlend(
-            syndromes,
-            flips,
-            mix,
-            s,
-            memory,
-            frame,
-            delay,
-            plan,
-            replies,
-            deliveries,
-        ),
-    }
-}
-
-// The same by tables that are named here, once the call is fit: a refused one copies none.
+// order; the counts are 0 after 1 to 5.
 pub fn frame(
     s: Station,
     memory: &mut [u8],
@@ -300,31 +221,20 @@ pub fn frame(
 ) -> Outcome
     ensures { λ r. ⌜ FrameLeaves s (now (frame .entry)) delay (record { memory = now (memory .entry); plan = now (plan .entry); replies = now (replies .entry); deliveries = now (deliveries .entry) }) r (record { memory = now (memory .exit); plan = now (plan .exit); replies = now (replies .exit); deliveries = now (deliveries .exit) }) ⌝ }
 {
-    match fitness::fitness_of(
-        ranges::in_range(s),
+    if !ranges::in_range(s) {
+        return without(Answer::StateOutOfRange, s);
+    }
+    if !lengths::length_fits(frame.len()) {
+        return without(Answer::FrameLengthUnfit, s);
+    }
+    if !lengths::enough(
         frame.len(),
         memory.len(),
         plan.len(),
         replies.len(),
         deliveries.len(),
     ) {
-        Fitness::Refused(answer) => without(answer, s),
-        Fitness::Fit => {
-            let syndromes = bch::syndromes::table();
-            let flips = bch::flips::table();
-            let mix = aes::mix::table();
-            by_hlend(
-                &syndromes,
-                &flips,
-                &mix,
-                s,
-                memory,
-                frame,
-                delay,
-                plan,
-                replies,
-                deliveries,
-            )
-        }
+        return without(Answer::BufferTooShort, s);
     }
+    by_hlend(s, memory, frame, delay, plan, replies, deliveries)
 }

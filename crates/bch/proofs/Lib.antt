@@ -3,12 +3,11 @@ pub mod Xor
 pub mod Ones
 pub mod Linear
 pub mod Range
+pub mod Powers
 pub mod Low
 pub mod Multiple
 pub mod RemainderRule
 pub mod Syndrome
 pub mod Patterns
 pub mod Places
-pub mod FlipRule
-pub mod SyndromeRule
 pub mod Determined

@@ -32,27 +32,38 @@ fn value64(r: Reading64) -> u64
 pub extern "C" fn bench_read32(words: &[u32]) -> u32
     ensures { λ r. ⌜ r ≡ readSum 32 (now (words .entry)) ⌝ }
 {
-    let syndromes = bch::syndromes::table();
-    let flips = bch::flips::table();
     let mut sum: u32 = 0;
     let mut i: usize = 0;
     while i < words.len() {
-        sum = sum ^ value32(hec::read32_by(&syndromes, &flips, words[i]));
+        sum = sum ^ value32(hec::read32(words[i]));
         i += 1;
     }
     sum
 }
 
+// As a walk over map or payload reads them.
 #[no_mangle]
 pub extern "C" fn bench_read64(words: &[u64]) -> u64
     ensures { λ r. ⌜ r ≡ readSum 64 (now (words .entry)) ⌝ }
 {
-    let syndromes = bch::syndromes::table();
-    let flips = bch::flips::table();
     let mut sum: u64 = 0;
     let mut i: usize = 0;
     while i < words.len() {
-        sum = sum ^ value64(hec::read64_by(&syndromes, &flips, words[i]));
+        sum = sum ^ value64(hec::read64_by_octets(words[i]));
+        i += 1;
+    }
+    sum
+}
+
+// As a word by itself is read.
+#[no_mangle]
+pub extern "C" fn bench_read64_plain(words: &[u64]) -> u64
+    ensures { λ r. ⌜ r ≡ readSum 64 (now (words .entry)) ⌝ }
+{
+    let mut sum: u64 = 0;
+    let mut i: usize = 0;
+    while i < words.len() {
+        sum = sum ^ value64(hec::read64(words[i]));
         i += 1;
     }
     sum

@@ -2,7 +2,6 @@ pub mod Limits
 pub mod Plan
 pub mod Promises
 pub mod Upstream
-pub mod Tables
 pub mod Turns
 pub mod Laser
 pub mod Verdicts

@@ -10,7 +10,6 @@ ghost use lib.ListN.{length};
 ghost use mathlib.Core.List.{[]};
 ghost use Rattle.bwmap.specs.Limits.{planNumbers};
 ghost use Rattle.series.specs.Series.{entryCount, carriedOver};
-ghost use Rattle.bwmap.specs.Tables.{Tables};
 ghost use Rattle.bwmap.specs.Turns.{outcome, toCome, starting, Small};
 ghost use Rattle.bwmap.specs.Plan.{MapLeaves};
 use search::Next;
@@ -59,25 +58,18 @@ fn carried_over(end: usize) -> u16
 }
 
 // The next series that is planned, written; or none, and then the walk is at its end.
-fn turn(
-    syndromes: &[u16; 2048],
-    flips: &[u16; 4096],
-    map: &[u8],
-    own: Own,
-    w: Walk,
-    plan: &mut [u16],
-) -> Walk
-    requires { ⌜ Tables (now syndromes) (now flips) × (w .at < entryCount (now map)) × (planNumbers ≤ length (now plan)) × Small w ⌝ }
+fn turn(map: &[u8], own: Own, w: Walk, plan: &mut [u16]) -> Walk
+    requires { ⌜ (w .at < entryCount (now map)) × (planNumbers ≤ length (now plan)) × Small w ⌝ }
     ensures { λ r. ⌜ Small r × (w .at < r .at) × (r .at ≤ entryCount (now (map .entry))) × (toCome own (now (map .entry)) (now (plan .exit)) r ≡ toCome own (now (map .entry)) (now (plan .entry)) w) ⌝ }
 {
     let last = w.end;
-    match search::next_planned(syndromes, flips, map, own, w.at, last, w.bursts) {
+    match search::next_planned(map, own, w.at, last, w.bursts) {
         Next::Until(next, s) => {
             let at = next - s.entries;
             let more = s.entries - 1;
-            let h = records::allocation_at(syndromes, flips, map, at);
+            let h = records::allocation_at(map, at);
             let place = records::NUMBERS_A_RECORD * w.records;
-            records::write_series(syndromes, flips, map, at + 1, more, h, plan, place);
+            records::write_series(map, at + 1, more, h, plan, place);
             Walk {
                 at: next,
                 records: w.records + (more + 1),
@@ -97,15 +89,8 @@ fn turn(
 }
 
 // The walk over the whole map. Once the last burst that a frame may have is planned, every series is passed over.
-fn walk_map(
-    syndromes: &[u16; 2048],
-    flips: &[u16; 4096],
-    map: &[u8],
-    own: Own,
-    carried: u16,
-    plan: &mut [u16],
-) -> Walk
-    requires { ⌜ Tables (now syndromes) (now flips) × (planNumbers ≤ length (now plan)) ⌝ }
+fn walk_map(map: &[u8], own: Own, carried: u16, plan: &mut [u16]) -> Walk
+    requires { ⌜ planNumbers ≤ length (now plan) ⌝ }
     ensures { λ r. ⌜ Small r × (outcome (now (plan .exit)) r [] ≡ toCome own (now (map .entry)) (now (plan .entry)) (starting carried)) ⌝ }
 {
     let mut w = Walk {
@@ -120,22 +105,13 @@ fn walk_map(
         if series::BURSTS_A_FRAME <= w.bursts {
             return w;
         }
-        w = turn(syndromes, flips, map, own, w, plan);
+        w = turn(map, own, w, plan);
     }
     w
 }
 
-// The plan of a map: records of four numbers at the start of the lent plan, the rest of which keeps its content. The tables
-// are those of hec, lent by a caller that reads more of a frame than its map.
-pub fn plan_map_by(
-    syndromes: &[u16; 2048],
-    flips: &[u16; 4096],
-    map: &[u8],
-    own: Own,
-    carried: u16,
-    plan: &mut [u16],
-) -> Answer
-    requires { ⌜ Tables (now syndromes) (now flips) ⌝ }
+// The plan of a map: records of four numbers at the start of the lent plan, the rest of which keeps its content.
+pub fn plan_map(map: &[u8], own: Own, carried: u16, plan: &mut [u16]) -> Answer
     ensures { λ r. ⌜ MapLeaves own (now (map .entry)) carried (now (plan .entry)) r (now (plan .exit)) ⌝ }
 {
     if plan.len() < PLAN_NUMBERS {
@@ -151,7 +127,7 @@ pub fn plan_map_by(
             carried: carried_over(end),
         });
     }
-    let w = walk_map(syndromes, flips, map, own, carried, plan);
+    let w = walk_map(map, own, carried, plan);
     Answer::Planned(Plan {
         records: w.records,
         bursts: w.bursts,
@@ -159,13 +135,4 @@ pub fn plan_map_by(
         end: w.end,
         carried: carried_over(w.end),
     })
-}
-
-// The same where nothing else is read.
-pub fn plan_map(map: &[u8], own: Own, carried: u16, plan: &mut [u16]) -> Answer
-    ensures { λ r. ⌜ MapLeaves own (now (map .entry)) carried (now (plan .entry)) r (now (plan .exit)) ⌝ }
-{
-    let syndromes = bch::syndromes::table();
-    let flips = bch::flips::table();
-    plan_map_by(&syndromes, &flips, map, own, carried, plan)
 }

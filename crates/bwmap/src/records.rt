@@ -5,11 +5,9 @@ use xgtc::allocation::Allocation;
 use xgtc::allocation::AllocationRead;
 ghost use Prim.Native.Nat.{_+_, _*_, _≤_, _<_};
 ghost use mathlib.Core.Path.{_≡_};
-ghost use mathlib.Core.List.{_∷_, []};
 ghost use lib.ListN.{length};
 ghost use lib.Seq.{sets};
 ghost use Rattle.series.specs.Series.{entryCount};
-ghost use Rattle.bwmap.specs.Tables.{Tables};
 ghost use Rattle.bwmap.specs.Turns.{noAllocation, allocationAt, allocationsFrom};
 ghost use Rattle.plan.specs.Records.{mark, planRecord};
 ghost use Rattle.bwmap.specs.Plan.{moreNumbers, seriesNumbers};
@@ -49,17 +47,12 @@ fn put(plan: &mut [u16], at: usize, a: Allocation, flags: u16, start: u16)
 }
 
 // The fields of the i-th entry; zeros stand for one that could not be read, and none such is planned.
-pub(crate) fn allocation_at(
-    syndromes: &[u16; 2048],
-    flips: &[u16; 4096],
-    map: &[u8],
-    i: usize,
-) -> Allocation
-    requires { ⌜ Tables (now syndromes) (now flips) × (i < entryCount (now map)) ⌝ }
+pub(crate) fn allocation_at(map: &[u8], i: usize) -> Allocation
+    requires { ⌜ i < entryCount (now map) ⌝ }
     ensures { λ r. ⌜ r ≡ allocationAt (now (map .entry)) i ⌝ }
 {
     let at = search::STRUCTURE_OCTETS * i;
-    match xgtc::allocation::read_allocation_by(syndromes, flips, &map[at..]) {
+    match entries::reading::read_entry(&map[at..]) {
         AllocationRead::Fields(a) => a,
         AllocationRead::Unreadable => no_allocation(),
         AllocationRead::Short => no_allocation(),
@@ -67,22 +60,13 @@ pub(crate) fn allocation_at(
 }
 
 // The records of `count` entries from `from` on, which continue the burst of the head h.
-fn write_more(
-    syndromes: &[u16; 2048],
-    flips: &[u16; 4096],
-    map: &[u8],
-    from: usize,
-    count: usize,
-    h: Allocation,
-    plan: &mut [u16],
-    at: usize,
-)
-    requires { ⌜ Tables (now syndromes) (now flips) × (from + count ≤ entryCount (now map)) × (at + 4 * count ≤ length (now plan)) ⌝ }
+fn write_more(map: &[u8], from: usize, count: usize, h: Allocation, plan: &mut [u16], at: usize)
+    requires { ⌜ (from + count ≤ entryCount (now map)) × (at + 4 * count ≤ length (now plan)) ⌝ }
     ensures { λ r. ⌜ now (plan .exit) ≡ sets (now (plan .entry)) at (moreNumbers h (allocationsFrom (now (map .entry)) from count)) ⌝ }
 {
     let mut k: usize = 0;
     while k < count {
-        let a = allocation_at(syndromes, flips, map, from + k);
+        let a = allocation_at(map, from + k);
         put(
             plan,
             at + NUMBERS_A_RECORD * k,
@@ -96,8 +80,6 @@ fn write_more(
 
 // The records of a whole burst: its head h, and the `count` entries from `from` on that continue it.
 pub(crate) fn write_series(
-    syndromes: &[u16; 2048],
-    flips: &[u16; 4096],
     map: &[u8],
     from: usize,
     count: usize,
@@ -105,18 +87,9 @@ pub(crate) fn write_series(
     plan: &mut [u16],
     at: usize,
 )
-    requires { ⌜ Tables (now syndromes) (now flips) × (from + count ≤ entryCount (now map)) × (at + 4 + 4 * count ≤ length (now plan)) ⌝ }
+    requires { ⌜ (from + count ≤ entryCount (now map)) × (at + 4 + 4 * count ≤ length (now plan)) ⌝ }
     ensures { λ r. ⌜ now (plan .exit) ≡ sets (now (plan .entry)) at (seriesNumbers (record { head = h; more = allocationsFrom (now (map .entry)) from count })) ⌝ }
 {
     put(plan, at, h, plan::head_flags(h), h.start);
-    write_more(
-        syndromes,
-        flips,
-        map,
-        from,
-        count,
-        h,
-        plan,
-        at + NUMBERS_A_RECORD,
-    );
+    write_more(map, from, count, h, plan, at + NUMBERS_A_RECORD);
 }

@@ -8,7 +8,6 @@ ghost use mathlib.Core.Path.{_≡_};
 ghost use mathlib.Core.Bool.{true};
 ghost use Rattle.entries.specs.Standings.{standing};
 ghost use Rattle.series.specs.Series.{entryAt, entryCount};
-ghost use Rattle.bwmap.specs.Tables.{Tables};
 ghost use Rattle.series.specs.Opens.{joined, goesOn, Modest};
 ghost use Rattle.bwmap.specs.Turns.{NextPlanned};
 
@@ -28,12 +27,12 @@ pub(crate) fn long(x: u16) -> usize
 }
 
 // The i-th entry of a map.
-fn read_at(syndromes: &[u16; 2048], flips: &[u16; 4096], map: &[u8], own: Own, i: usize) -> Standing
-    requires { ⌜ Tables (now syndromes) (now flips) × (i < entryCount (now map)) ⌝ }
+fn read_at(map: &[u8], own: Own, i: usize) -> Standing
+    requires { ⌜ i < entryCount (now map) ⌝ }
     ensures { λ r. ⌜ r ≡ standing own (entryAt (now (map .entry)) i) ⌝ }
 {
     let at = STRUCTURE_OCTETS * i;
-    own.standing_by(syndromes, flips, &map[at..])
+    own.standing_ahead(&map[at..])
 }
 
 fn joined(s: Open, a: Allocation) -> Open
@@ -49,23 +48,15 @@ fn joined(s: Open, a: Allocation) -> Open
 
 // The next series from `from` on that is planned, after so many bursts of which the last ends at `end`. Each entry is
 // read once, in one loop, and series that are passed over stay in it: most entries of a map are foreign.
-pub(crate) fn next_planned(
-    syndromes: &[u16; 2048],
-    flips: &[u16; 4096],
-    map: &[u8],
-    own: Own,
-    from: usize,
-    end: usize,
-    bursts: usize,
-) -> Next
-    requires { ⌜ Tables (now syndromes) (now flips) × (from ≤ entryCount (now map)) ⌝ }
+pub(crate) fn next_planned(map: &[u8], own: Own, from: usize, end: usize, bursts: usize) -> Next
+    requires { ⌜ from ≤ entryCount (now map) ⌝ }
     ensures { λ r. ⌜ NextPlanned own (now (map .entry)) end bursts from r ⌝ }
 {
     let n = map.len() / STRUCTURE_OCTETS;
     let mut s = series::closed();
     let mut i = from;
     while i < n {
-        match read_at(syndromes, flips, map, own, i) {
+        match read_at(map, own, i) {
             Standing::Head(h) => {
                 if series::fits(end, bursts, s) {
                     return Next::Until(i, s);

@@ -10,10 +10,11 @@ use lib.Dec.{lit<, ltb}
 use lib.ListN.{length, take, drop, replicate, length-append}
 use lib.Seq.{take-at, drop-at, take-all}
 use borrow.Author.Tests.{le-leb}
+use lib.Count.{onesIn}
 use Rattle.hec.specs.Reads.{word}
 use Rattle.hec.proofs.Compute.{computed32}
-use Rattle.bch.proofs.SyndromeRule.{syndromes}
-use Rattle.bch.proofs.FlipRule.{flips}
+use Rattle.bch.specs.Code.{remainderFrom}
+use Rattle.flips.proofs.FlipRule.{flips}
 use Rattle.xgtc.specs.declared.hlend.Hlend.{Hlend}
 use Rattle.xgtc.specs.Layouts.{hlendOf}
 use Rattle.framing.specs.Reads.{fields, taken}
@@ -142,7 +143,7 @@ pub activating : List ℕ
 activating = 0 ∷ 0 ∷ 126 ∷ 150 ∷ behind
 
 reads-activating : readHlend activating ≡ fields threeMessages
-unfolding activating threeMessages syndromes flips
+unfolding activating threeMessages remainderFrom onesIn flips
 reads-activating = rw (le-leb 4 (length activating) (omega arith)) (ap (taken hlendOf) (computed32 0x00007E96 (lit< tt) (word 0x00007E96) refl))
 
 module _ (a b c : List ℕ) (la : length a ≡ 48) (lb : length b ≡ 48) (lc : length c ≡ 48) where

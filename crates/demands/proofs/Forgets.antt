@@ -9,10 +9,11 @@ use mathlib.Core.Bool.{true, false, cond}
 use mathlib.Core.List.{List, [], _∷_}
 use lib.Dec.{lit<}
 use lib.ListN.{length}
+use lib.Count.{onesIn}
 use Rattle.hec.specs.Reads.{word}
-use Rattle.hec.proofs.Compute.{computed32}
-use Rattle.bch.proofs.SyndromeRule.{syndromes}
-use Rattle.bch.proofs.FlipRule.{flips}
+use Rattle.hec.proofs.Compute.{computed32, computed64}
+use Rattle.bch.specs.Code.{remainderFrom}
+use Rattle.flips.proofs.FlipRule.{flips}
 use Rattle.xgtc.specs.declared.allocation.Allocation.{Allocation}
 use Rattle.xgtc.specs.declared.hlend.Hlend.{Hlend}
 use Rattle.xgtc.specs.Layouts.{hlendOf, allocationOf}
@@ -45,7 +46,7 @@ use Rattle.engine.proofs.Table.{only}
 use Rattle.demands.specs.Runs.{Call, frame, lost, Standing, passes, after, start, runOf}
 use Rattle.demands.specs.Demand3.{sent, Demand3}
 use Rattle.demands.specs.Wrong.{forgetful, forgetsAllocs}
-use Rattle.demands.proofs.RefutingRuns.{serial, registration, fresh, memory, buffers, lent, Stands, begun, Leads, Asked, on, asked, next-planned, none-planned, computed64, bare, noEntries, led, bare-handled, searching, bare-leads}
+use Rattle.demands.proofs.RefutingRuns.{serial, registration, fresh, memory, buffers, lent, Stands, begun, Leads, Asked, on, asked, next-planned, none-planned, bare, noEntries, led, bare-handled, searching, bare-leads}
 use Rattle.demands.proofs.Activated.{activating, stationWith, given, operating, activated}
 
 -- ---- the states, with the Alloc-IDs that should be held and with none
@@ -126,11 +127,11 @@ grant : Allocation
 grant = record { alloc = record { 0 = 1024 }; dbru = false; ploamu = false; start = 0; grant = 10; fwi = false; profile = 0 }
 
 reads-granting : readHlend granting ≡ fields oneEntry
-unfolding granting oneEntry syndromes flips
+unfolding granting oneEntry remainderFrom onesIn flips
 reads-granting = ap (taken hlendOf) (computed32 0x002013AC (lit< tt) (word 0x002013AC) refl)
 
 entry : entryAt (mapOf oneEntry granting) 0 ≡ fields grant
-unfolding granting oneEntry grant entryAt syndromes flips
+unfolding granting oneEntry grant entryAt remainderFrom onesIn flips
 entry = ap (taken allocationOf) (computed64 0x10000000000A08A5 (lit< tt) (word 0x10000000000A08A5) refl)
 
 -- it is ours, and with nothing held it isn't

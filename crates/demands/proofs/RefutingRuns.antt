@@ -9,12 +9,11 @@ use mathlib.Core.Bool.{Bool, true, false, _&&_}
 use mathlib.Core.List.{List, [], _∷_}
 use lib.Dec.{lit<}
 use lib.ListN.{replicate}
+use lib.Count.{onesIn}
 use Rattle.hec.specs.Reads.{Reading, word, reading}
-use Rattle.hec.specs.Lent.{readingBy}
 use Rattle.hec.proofs.Compute.{computed32}
-use Rattle.hec.proofs.LentReads.{lent64}
-use Rattle.bch.proofs.SyndromeRule.{syndromes, rule as syndrome-rule}
-use Rattle.bch.proofs.FlipRule.{flips, rule as flip-rule}
+use Rattle.bch.specs.Code.{remainderFrom}
+use Rattle.flips.proofs.FlipRule.{flips}
 use Rattle.xgtc.specs.declared.hlend.Hlend.{Hlend}
 use Rattle.xgtc.specs.Layouts.{hlendOf}
 use Rattle.framing.specs.Reads.{fields, taken}
@@ -139,11 +138,6 @@ next-planned a b c (after-the-fourth because rest) = absurd (omega arith)
 pub none-planned : {e n : ℕ} {p : List Series} → Account e n [] p → p ≡ []
 none-planned none-left = refl
 
--- ---- an allocation structure's word, by computation
-
-pub computed64 : (w : ℕ) → w < 2 ^ 64 → (r : Reading) → readingBy syndromes flips 8 w ≡ r → reading 64 w ≡ r
-computed64 w h r e = sym (lent64 syndromes flips syndrome-rule flip-rule w h) ∙ e
-
 -- ---- a frame with no map and no message, at power-on and in any state
 
 unfoldable pub bare : List ℕ
@@ -153,7 +147,7 @@ unfoldable pub noEntries : Hlend
 noEntries = record { bwmap = 0; ploam = 0 }
 
 pub reads-bare : readHlend bare ≡ fields noEntries
-unfolding bare noEntries syndromes flips
+unfolding bare noEntries remainderFrom onesIn flips
 reads-bare = ap (taken hlendOf) (computed32 0 (lit< tt) (word 0) refl)
 
 -- what a frame call that is handled leads to

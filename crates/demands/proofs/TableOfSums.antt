@@ -3,10 +3,11 @@
 use mathlib.Core.Path.{_≡_, refl, ap}
 use Prim.Native.Nat.{ℕ}
 use lib.Dec.{lit<}
+use lib.Count.{onesIn}
 use Rattle.hec.specs.Reads.{Reading, word, unreadable}
 use Rattle.hec.proofs.Compute.{computed32}
-use Rattle.bch.proofs.SyndromeRule.{syndromes}
-use Rattle.bch.proofs.FlipRule.{flips}
+use Rattle.bch.specs.Code.{remainderFrom}
+use Rattle.flips.proofs.FlipRule.{flips}
 use Rattle.xgtc.specs.Layouts.{hlendOf}
 use Rattle.framing.specs.Reads.{taken}
 use Rattle.bwmap.proofs.Sums.{sum-8, sum-9, sum-10, sum-11}
@@ -14,7 +15,7 @@ use Rattle.conduct.proofs.Sums.{sum-12}
 use Rattle.demands.specs.Sums.{Sums, hlendGives}
 
 pub sums : Sums
-unfolding syndromes flips
+unfolding remainderFrom onesIn flips
 sums =
     record {
       sum-1 = ap (taken hlendOf) (computed32 0x00000000 (lit< tt) (word 0x00000000) refl);

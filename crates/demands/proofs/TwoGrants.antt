@@ -7,10 +7,11 @@ use mathlib.Core.Path.{_≡_, _∙_, refl, ap, ap₂, subst}
 use mathlib.Core.Bool.{true, false}
 use mathlib.Core.List.{List, [], _∷_}
 use lib.Dec.{lit<}
+use lib.Count.{onesIn}
 use Rattle.hec.specs.Reads.{word}
-use Rattle.hec.proofs.Compute.{computed32}
-use Rattle.bch.proofs.SyndromeRule.{syndromes}
-use Rattle.bch.proofs.FlipRule.{flips}
+use Rattle.hec.proofs.Compute.{computed32, computed64}
+use Rattle.bch.specs.Code.{remainderFrom}
+use Rattle.flips.proofs.FlipRule.{flips}
 use Rattle.xgtc.specs.declared.allocation.Allocation.{Allocation}
 use Rattle.xgtc.specs.declared.hlend.Hlend.{Hlend}
 use Rattle.xgtc.specs.Layouts.{hlendOf, allocationOf}
@@ -31,7 +32,7 @@ use Rattle.engine.proofs.Table.{only}
 use Rattle.demands.specs.Runs.{frame}
 use Rattle.demands.specs.Demand3.{sent, Demand3}
 use Rattle.demands.specs.Wrong.{withFrame}
-use Rattle.demands.proofs.RefutingRuns.{fresh, memory, buffers, lent, begun, Leads, on, asked, next-planned, none-planned, computed64, bare, searching, searching-in-range, bare-leads}
+use Rattle.demands.proofs.RefutingRuns.{fresh, memory, buffers, lent, begun, Leads, on, asked, next-planned, none-planned, bare, searching, searching-in-range, bare-leads}
 
 -- ---- the frame as it is read
 
@@ -48,15 +49,15 @@ unfoldable pub seriesFrom : ℕ → Series
 seriesFrom start = record { head = grantAt start; more = [] }
 
 pub reads-two : readHlend two ≡ fields twoEntries
-unfolding two twoEntries syndromes flips
+unfolding two twoEntries remainderFrom onesIn flips
 reads-two = ap (taken hlendOf) (computed32 0x00400D2B (lit< tt) (word 0x00400D2B) refl)
 
 first-entry : entryAt (mapOf twoEntries two) 0 ≡ fields (grantAt 0)
-unfolding two twoEntries grantAt entryAt syndromes flips
+unfolding two twoEntries grantAt entryAt remainderFrom onesIn flips
 first-entry = ap (taken allocationOf) (computed64 0x0FFD000000000814 (lit< tt) (word 0x0FFD000000000814) refl)
 
 second-entry : entryAt (mapOf twoEntries two) 1 ≡ fields (grantAt 100)
-unfolding two twoEntries grantAt entryAt syndromes flips
+unfolding two twoEntries grantAt entryAt remainderFrom onesIn flips
 second-entry = ap (taken allocationOf) (computed64 0x0FFD0064000016CD (lit< tt) (word 0x0FFD0064000016CD) refl)
 
 two-series : seriesOf (standings (ownOf searching) (mapOf twoEntries two)) ≡ seriesFrom 0 ∷ seriesFrom 100 ∷ []

@@ -9,9 +9,6 @@ pub use station::Station;
 // A frame has arrived: the plan of upstream bursts, the replies, the SDUs and the next state. Answers 0 to 6.
 pub use arrival::Outcome;
 pub use arrival::frame;
-// The same by lent tables, for a program in Rattle that makes many calls: it names `bch::syndromes::table()`,
-// `bch::flips::table()` and `aes::mix::table()` once. No caller from C sees it.
-pub use arrival::frame_by;
 // No frame has arrived: the synchroniser reports LODS. Answers 0 or 1.
 pub use times::lost;
 // Where in the caller's frame an unfragmented SDU stands. Answers 0, 1, 2, 4, 5 or 6.

@@ -4,15 +4,14 @@ use Prim.Native.Nat.{ℕ}
 use mathlib.Core.Path.{_≡_, _∙_, sym}
 use mathlib.Core.Bool.{Bool}
 use mathlib.Core.List.{List}
+use Rattle.xgtc.specs.Reads.{readAllocation}
 use Rattle.entries.specs.declared.Own.{Own}
 use Rattle.entries.specs.declared.Verdict.{Verdict}
 use Rattle.entries.specs.declared.Standing.{Standing}
-use Rattle.entries.specs.Standings.{isPlanned, silent, standing, readBy}
+use Rattle.entries.specs.Standings.{isPlanned, silent, standing}
 
-pub standing-by-once
-    : (own : Own) (syndromes flips s : List ℕ) (a b : Standing)
-    → a ≡ standing own (readBy syndromes flips s) → b ≡ standing own (readBy syndromes flips s) → a ≡ b
-standing-by-once own syndromes flips s a b p q = p ∙ sym q
+pub standing-ahead-once : (own : Own) (s : List ℕ) (a b : Standing) → a ≡ standing own (readAllocation s) → b ≡ standing own (readAllocation s) → a ≡ b
+standing-ahead-once own s a b p q = p ∙ sym q
 
 pub is-silent-once : (own : Own) (a b : Bool) → a ≡ silent (own .activation) → b ≡ silent (own .activation) → a ≡ b
 is-silent-once own a b p q = p ∙ sym q

@@ -1,23 +1,19 @@
 -- The paper's "Map walk", first half: what an entry of the map is by itself, whatever stands around it.
 -- Assumes nothing.
-use Prim.Native.Nat.{ℕ}
 use mathlib.Core.Path.{_≡_}
 use mathlib.Core.Bool.{Bool, true, false, cond, _&&_, _||_}
-use mathlib.Core.List.{List}
 use lib.Dec.{eqb, ltb, leb}
 use Rattle.ids.specs.declared.AllocId.{AllocId}
 use Rattle.ids.specs.declared.OnuId.{OnuId}
 use Rattle.ids.specs.Ids.{sameAlloc, defaultAlloc, broadcastAlloc}
-use Rattle.hec.specs.Lent.{readingBy}
 use Rattle.xgtc.specs.declared.allocation.Allocation.{Allocation}
-use Rattle.xgtc.specs.Layouts.{allocationOf}
-use Rattle.framing.specs.Reads.{Found, fields, unreadable, short, readAs}
+use Rattle.framing.specs.Reads.{Found, fields, unreadable, short}
 use Rattle.station.specs.declared.Activation.{Activation}
 use Rattle.station.specs.declared.Activation.the-variants.{Initial, SerialNumber, Ranging, Operation, Intermittent, EmergencyStop}
 use Rattle.link.specs.declared.Allocs.{Allocs}
 use Rattle.ids.specs.Places.{some}
 use Rattle.link.specs.Link.{heldAllocs}
-use Rattle.entries.specs.Limits.{structureOctets, lastStart, continuing}
+use Rattle.entries.specs.Limits.{lastStart, continuing}
 use Rattle.entries.specs.declared.Own.{Own}
 use Rattle.entries.specs.declared.Verdict.{Verdict}
 use Rattle.entries.specs.declared.Verdict.the-variants.{Planned, Unreadable, StartTimeUnfit, DbruWithoutRoom, Foreign, ContinuingNothing, Seventeenth, TooLong, Overlapping, AfterTheFourth, Silent}
@@ -107,7 +103,3 @@ pub record Mine (own : Own) (e : Found Allocation) (a : Allocation) (more : Bool
   pub room : noRoom a ≡ false
   pub owned : ours own a ≡ true
   pub kind : continues a ≡ more
-
--- the structure at the start of a list of octets, its word read by lent tables
-abbrev pub readBy : List ℕ → List ℕ → List ℕ → Found Allocation
-readBy syndromes flips s = readAs (readingBy syndromes flips structureOctets) structureOctets allocationOf s

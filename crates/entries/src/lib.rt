@@ -1,5 +1,5 @@
 // The entries of the bandwidth map (clause 8.1.2), each by itself: read, usable or not, and whose it is.
-mod reading;
+pub mod reading;
 
 use ids::AllocId;
 use ids::OnuId;
@@ -10,10 +10,10 @@ use xgtc::allocation::AllocationRead;
 ghost use mathlib.Core.Path.{_≡_};
 ghost use mathlib.Core.Bool.{_||_, _&&_};
 ghost use lib.ListN.{take};
-ghost use Rattle.xgtc.specs.Reads.{foundAllocation};
+ghost use Rattle.xgtc.specs.Reads.{readAllocation, foundAllocation};
 ghost use Rattle.ids.specs.Places.{some};
 ghost use Rattle.ids.specs.Ids.{sameAlloc};
-ghost use Rattle.entries.specs.Standings.{isPlanned, startUnfit, noRoom, continues, held, discovery, ranging, ours, silent, sorted, standing, readBy};
+ghost use Rattle.entries.specs.Standings.{isPlanned, startUnfit, noRoom, continues, held, discovery, ranging, ours, silent, sorted, standing};
 
 // The last word of an upstream frame, and the StartTime that stands for none: such an entry continues the burst.
 const LAST_START: u16 = 9719;
@@ -217,10 +217,10 @@ impl Own {
         }
     }
 
-    // The entry at the start of a slice, its word read by lent tables.
-    pub fn standing_by(self, syndromes: &[u16; 2048], flips: &[u16; 4096], s: &[u8]) -> Standing
-        ensures { λ r. ⌜ r ≡ standing self (readBy (now (syndromes .entry)) (now (flips .entry)) (now (s .entry))) ⌝ }
+    // The entry at the start of a slice.
+    pub fn standing_ahead(self, s: &[u8]) -> Standing
+        ensures { λ r. ⌜ r ≡ standing self (readAllocation (now (s .entry))) ⌝ }
     {
-        self.standing(reading::read_entry(syndromes, flips, s))
+        self.standing(reading::read_entry(s))
     }
 }

@@ -1,5 +1,5 @@
-// An entry read in a walk over a map. This has one caller, so that the compiler merges it into the walk's loop; framing
-// reads for all others.
+// An entry of a map that is walked: by octets, and with no test before the word is loaded, so that the compiler merges it into the
+// walk's loop. xgtc reads a structure by itself.
 use hec::Reading64;
 use xgtc::allocation::Allocation;
 use xgtc::allocation::AllocationRead;
@@ -7,8 +7,7 @@ ghost use mathlib.Core.Path.{_≡_};
 ghost use Rattle.hec.specs.Reads.{found64};
 ghost use Rattle.xgtc.specs.Layouts.{allocationOf};
 ghost use Rattle.framing.specs.Reads.{taken};
-ghost use Rattle.xgtc.specs.Reads.{foundAllocation};
-ghost use Rattle.entries.specs.Standings.{readBy};
+ghost use Rattle.xgtc.specs.Reads.{readAllocation, foundAllocation};
 
 fn found(read: Reading64) -> AllocationRead
     ensures { λ r. ⌜ foundAllocation r ≡ taken allocationOf (found64 read) ⌝ }
@@ -20,10 +19,10 @@ fn found(read: Reading64) -> AllocationRead
 }
 
 // The entry at the start of a slice.
-pub(crate) fn read_entry(syndromes: &[u16; 2048], flips: &[u16; 4096], s: &[u8]) -> AllocationRead
-    ensures { λ r. ⌜ foundAllocation r ≡ readBy (now (syndromes .entry)) (now (flips .entry)) (now (s .entry)) ⌝ }
+pub fn read_entry(s: &[u8]) -> AllocationRead
+    ensures { λ r. ⌜ foundAllocation r ≡ readAllocation (now (s .entry)) ⌝ }
 {
-    let read = hec::read64_by(syndromes, flips, framing::word_ahead(s));
+    let read = hec::read64_by_octets(framing::word_ahead(s));
     if s.len() < 8 {
         return AllocationRead::Short;
     }

@@ -27,7 +27,7 @@ back-xgem (XgemFields x) = refl
 back-xgem XgemUnreadable = refl
 back-xgem XgemShort = refl
 
--- read_xgem, read_xgem_by
+-- read_xgem
 pub read-xgem-once : (x : Found XgemHeader) (a b : XgemRead) → foundXgem a ≡ x → foundXgem b ≡ x → a ≡ b
 read-xgem-once = told-once foundXgem tellXgem back-xgem
 

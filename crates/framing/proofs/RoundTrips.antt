@@ -14,7 +14,7 @@ use Rattle.hec.specs.Reads.{word, reading}
 use Rattle.hec.specs.Writes.{protected}
 use Rattle.hec.proofs.Words.{mends, undamaged}
 use Rattle.hec.proofs.Nearest.{reading-reads}
-use Rattle.bch.proofs.SyndromeRule.{octet-power}
+use Rattle.bch.proofs.Powers.{octet-power}
 use Rattle.framing.specs.Octets.{value, octets}
 use Rattle.framing.specs.Layouts.{xgemOf, xgemFits, xgemWord, payloadSize}
 use Rattle.framing.specs.Reads.{Found, fields, taken, readAs, readXgem}

@@ -9,9 +9,8 @@ ghost use Prim.Native.Nat.{_-_, _≤_};
 ghost use mathlib.Core.List.{_++_};
 ghost use lib.ListN.{length, replicate};
 ghost use Rattle.hec.specs.Reads.{found64};
-ghost use Rattle.hec.specs.Lent.{readingBy};
 ghost use Rattle.framing.specs.Layouts.{xgemOf, xgemFits, xgemBits, payloadSize};
-ghost use Rattle.framing.specs.Reads.{taken, readAs, readXgem, foundXgem};
+ghost use Rattle.framing.specs.Reads.{taken, readXgem, foundXgem};
 ghost use Rattle.framing.specs.Writes.{writeXgem, writeXgemFrame, put};
 
 // What the padding of a payload holds.
@@ -94,17 +93,7 @@ pub fn read_xgem(s: &[u8]) -> XgemRead
     if s.len() < 8 {
         return XgemRead::Short;
     }
-    found(hec::read64(octets::word64(s)))
-}
-
-// The same by lent tables, for a walk over a payload.
-pub fn read_xgem_by(syndromes: &[u16; 2048], flips: &[u16; 4096], s: &[u8]) -> XgemRead
-    ensures { λ r. ⌜ foundXgem r ≡ readAs (readingBy (now (syndromes .entry)) (now (flips .entry)) 8) 8 xgemOf (now (s .entry)) ⌝ }
-{
-    if s.len() < 8 {
-        return XgemRead::Short;
-    }
-    found(hec::read64_by(syndromes, flips, octets::word64(s)))
+    found(hec::read64_by_octets(octets::word64(s)))
 }
 
 // The XGEM header of the fields given, at the start of a target.

@@ -1,9 +1,9 @@
 -- No second outcome meets the contract of a public function: for each, any two that do are equal.
 -- Assumes nothing.
-use mathlib.Core.Path.{_≡_, refl, sym, ap, _∙_}
-use Prim.Native.Nat.{ℕ, _^_, _≤_, _<_}
+use mathlib.Core.Path.{_≡_, refl, ap}
+use Prim.Native.Nat.{ℕ, _^_, _<_}
 use native.Mathlib.Omega.{arith}
-use Rattle.hec.specs.Reads.{Reading, word, unreadable, Reads, found32, found64}
+use Rattle.hec.specs.Reads.{Reads, found32, found64}
 use Rattle.hec.specs.Writes.{Written}
 use Rattle.hec.specs.declared.Word32.{Word32}
 use Rattle.hec.specs.declared.Word64.{Word64}
@@ -27,19 +27,12 @@ found64-once (Word-64 u) Unreadable-64 e = cc
 found64-once Unreadable-64 (Word-64 v) e = cc
 found64-once Unreadable-64 Unreadable-64 e = refl
 
--- read32, read64
+-- read32, read64, read64_by_octets
 pub read32-once : (w : ℕ) → w < 2 ^ 32 → (a b : Reading32) → Reads 32 w (found32 a) → Reads 32 w (found32 b) → a ≡ b
 read32-once w h a b p q = found32-once a b (settled 32 w (omega arith) h (found32 a) (found32 b) p q)
 
 pub read64-once : (w : ℕ) → w < 2 ^ 64 → (a b : Reading64) → Reads 64 w (found64 a) → Reads 64 w (found64 b) → a ≡ b
 read64-once w h a b p q = found64-once a b (settled 64 w (omega arith) h (found64 a) (found64 b) p q)
-
--- read32_by, read64_by: what the lent tables give is one reading
-pub read32-by-once : (r : Reading) (a b : Reading32) → found32 a ≡ r → found32 b ≡ r → a ≡ b
-read32-by-once r a b p q = found32-once a b (p ∙ sym q)
-
-pub read64-by-once : (r : Reading) (a b : Reading64) → found64 a ≡ r → found64 b ≡ r → a ≡ b
-read64-by-once r a b p q = found64-once a b (p ∙ sym q)
 
 -- write32, write64
 pub write32-once : (d : ℕ) (a b : Word32) → Written 32 d (a .0) → Written 32 d (b .0) → a ≡ b

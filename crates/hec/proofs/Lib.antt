@@ -1,7 +1,6 @@
 pub mod Words
 pub mod Nearest
-pub mod SyndromeSum
-pub mod LentReads
+pub mod Mending
 pub mod Protected
 pub mod Steps
 pub mod Determined

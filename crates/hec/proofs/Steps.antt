@@ -1,28 +1,20 @@
 -- The steps of the code that reads, over plain variables: what its tests show of the definitions.
 -- Assumes nothing.
-use mathlib.Core.Path.{_≡_, sym, ap, _∙_}
-use mathlib.Core.List.{List}
+use mathlib.Core.Path.{_≡_, ap, _∙_}
 use native.Mathlib.Omega.{arith}
 use Prim.Native.Nat.{ℕ, _+_, _/_, _%_, _^_, _≤_, _<_}
-use borrow.Author.Tests.{eq-eqb, ne-eqb, le-leb, lt-leb, lt-ltb, le-ltb}
+use borrow.Author.Tests.{le-leb, lt-leb, lt-ltb, le-ltb}
 use lib.Bits.{bitXor}
-use lib.Dec.{eqb, leb, ltb}
 use Rattle.hec.specs.Reads.{Reading, word, unreadable}
 use Rattle.bch.specs.Tables.{bitsOf, countsOf}
-use Rattle.hec.specs.Lent.{lastBit, mendedAs, mendedBy, readingBy, sent, syndromeBy}
+use Rattle.hec.specs.Mends.{lastBit, mendedAs, sent}
 
-module _ (t f : List ℕ) (o w s : ℕ) (e : s ≡ syndromeBy t o 0 w) where
-  pub clean : s ≡ 0 → word w ≡ readingBy t f o w
-  clean z = rw (eq-eqb (syndromeBy t o 0 w) 0 (sym e ∙ z))
+-- of 64 bits that were read, the 32 that were sent
+pub sent-word : (v : ℕ) (x : Reading) → x ≡ word v → v < 2 ^ 32 → sent x ≡ word v
+sent-word v x e h = ap sent e ∙ rw (lt-ltb v (2 ^ 32) h)
 
-  pub damaged : (x : Reading) → (s ≡ 0 → ⊥) → x ≡ mendedBy f w s → x ≡ readingBy t f o w
-  damaged x n m = rw (ne-eqb (syndromeBy t o 0 w) 0 (λ z. n (e ∙ z))) (m ∙ ap (mendedBy f w) e)
-
-pub sent-word : (v : ℕ) (x : Reading) → word v ≡ x → v < 2 ^ 32 → word v ≡ sent x
-sent-word v x e h = sym (ap sent (sym e) ∙ rw (lt-ltb v (2 ^ 32) h))
-
-pub not-sent : (v : ℕ) (x : Reading) → word v ≡ x → 2 ^ 32 ≤ v → unreadable ≡ sent x
-not-sent v x e h = sym (ap sent (sym e) ∙ rw (le-ltb v (2 ^ 32) h))
+pub not-sent : (v : ℕ) (x : Reading) → x ≡ word v → 2 ^ 32 ≤ v → sent x ≡ unreadable
+not-sent v x e h = ap sent e ∙ rw (le-ltb v (2 ^ 32) h)
 
 -- the entry v for the syndrome s: how many code bits, and the bit of the parity
 module _ (v w s : ℕ) where

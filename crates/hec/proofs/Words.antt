@@ -1,7 +1,7 @@
 -- The header fact, once, over the width: at most one true word of n bits is at most two bits away, so `Reads` settles what
 -- a word reads as, and a true word is read back with up to two of its bits flipped.
 -- Assumes nothing.
-use mathlib.Core.Path.{_≡_, refl, sym, ap, ap₂, _∙_, subst}
+use mathlib.Core.Path.{_≡_, refl, sym, ap, _∙_}
 use Prim.Native.Nat.{ℕ, zero, suc, _+_, _-_, _*_, _/_, _%_, _^_, _≤_, _<_}
 use native.Mathlib.Nat.{lt-of-lt-of-le}
 use native.Mathlib.Omega.{arith}
@@ -14,8 +14,9 @@ use Rattle.hec.specs.Reads.{Reading, word, unreadable, Reads}
 use Rattle.bch.specs.Tables.{syndrome, bitsOf}
 use Rattle.bch.proofs.Xor.{bit, xor-cancel}
 use Rattle.bch.proofs.Ones.{half-lt}
+use Rattle.bch.proofs.Range.{remainder-lt}
 use Rattle.bch.proofs.Syndrome.{syndrome-xor, syndrome-parts, true-syndrome, syndrome-true}
-use Rattle.bch.proofs.FlipRule.{flips, rule}
+use Rattle.flips.proofs.FlipRule.{flips, rule}
 
 -- a pattern of at most two of n bits, with the syndrome s
 pub record Flaw (n s e : ℕ) : Type 0 where
@@ -29,7 +30,8 @@ code-few e h = omega (arith, ones-step e)
 
 -- and the table names them
 pub named : (n s e : ℕ) → n ≤ 64 → Flaw n s e → bitsOf (getD flips (remainder (e / 2)) 0) ≡ e / 2 * 2
-named n s e wide p = rule .named (e / 2) (half-lt 63 (lt-of-lt-of-le (p .within) (pow-mono {j = 64} wide))) (code-few e (p .few)) .0
+named n s e wide p =
+    rule (remainder (e / 2)) (remainder-lt (e / 2)) .named (e / 2) (half-lt 63 (lt-of-lt-of-le (p .within) (pow-mono {j = 64} wide))) (code-few e (p .few)) refl .0
 
 same-bit : (x y k : ℕ) → x < 2 → y < 2 → (x + k) % 2 ≡ (y + k) % 2 → x ≡ y
 same-bit zero zero k hx hy e = refl

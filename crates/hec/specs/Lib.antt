@@ -1,3 +1,3 @@
 pub mod Reads
 pub mod Writes
-pub mod Lent
+pub mod Mends

@@ -4,12 +4,9 @@ ghost use mathlib.Core.Path.{_≡_};
 ghost use Prim.Native.Nat.{_%_, _^_};
 ghost use Rattle.hec.specs.Reads.{Reads, found32, found64};
 ghost use Rattle.hec.specs.Writes.{Written};
-ghost use Rattle.hec.specs.Lent.{readingBy, sent};
 
 mod damage;
 mod protect;
-
-use damage::Mended;
 
 // A true word of 32 bits. Only this crate makes one, so whatever is taken from one has been checked and mended.
 pub struct Word32(u32);
@@ -43,57 +40,49 @@ impl Word64 {
     }
 }
 
-// The true word of 64 bits at most two bits away.
+// The true word of 64 bits at most two bits away, by the check values of its 63 places.
 pub fn read64(word: u64) -> Reading64
     ensures { λ r. ⌜ Reads 64 word (found64 r) ⌝ }
 {
-    let syndromes = bch::syndromes::table();
-    let flips = bch::flips::table();
-    read64_by(&syndromes, &flips, word)
+    let s = protect::syndrome(word);
+    if s == 0 {
+        return Reading64::Word(Word64(word));
+    }
+    damage::mend(flips::flips(s), word, s)
 }
 
-// The true word of 32 bits at most two bits away.
+// The same by what each octet adds, for a walk over map or payload: eight looks into tables for 63 sums. `syndrome` and `flips`
+// have more callers than one and so stay functions, which answer in a register, and this one is merged into the walk.
+pub fn read64_by_octets(word: u64) -> Reading64
+    ensures { λ r. ⌜ Reads 64 word (found64 r) ⌝ }
+{
+    let s = syndromes::syndrome(word);
+    if s == 0 {
+        return Reading64::Word(Word64(word));
+    }
+    damage::mend(flips::flips(s), word, s)
+}
+
+// The true word of 32 bits at most two bits away: a word of 64 with 32 zeros in front. These are not sent, and a repair that
+// needs one of them is none.
 pub fn read32(word: u32) -> Reading32
     ensures { λ r. ⌜ Reads 32 word (found32 r) ⌝ }
 {
-    let syndromes = bch::syndromes::table();
-    let flips = bch::flips::table();
-    read32_by(&syndromes, &flips, word)
-}
-
-// The same by lent tables: whoever reads many words names each table once.
-pub fn read64_by(syndromes: &[u16; 2048], flips: &[u16; 4096], word: u64) -> Reading64
-    ensures { λ r. ⌜ found64 r ≡ readingBy (now (syndromes .entry)) (now (flips .entry)) 8 word ⌝ }
-{
-    let syndrome = damage::syndrome64(syndromes, word);
-    if syndrome == 0 {
-        return Reading64::Word(Word64(word));
-    }
-    let mend = damage::mend(flips, word, syndrome);
-    match mend {
-        Mended::Word(v) => Reading64::Word(Word64(v)),
-        Mended::Unreadable => Reading64::Unreadable,
-    }
-}
-
-pub fn read32_by(syndromes: &[u16; 2048], flips: &[u16; 4096], word: u32) -> Reading32
-    ensures { λ r. ⌜ found32 r ≡ sent (readingBy (now (syndromes .entry)) (now (flips .entry)) 4 word) ⌝ }
-{
-    let syndrome = damage::syndrome32(syndromes, word);
-    if syndrome == 0 {
+    let s = syndromes::syndrome(word as u64);
+    if s == 0 {
         return Reading32::Word(Word32(word));
     }
-    let mend = damage::mend(flips, word as u64, syndrome);
-    match mend {
-        Mended::Word(v) => {
-            // The 32 zeros in front are not sent: a repair that needs one of them is none.
+    let read = damage::mend(flips::flips(s), word as u64, s);
+    match read {
+        Reading64::Word(w) => {
+            let v = w.0;
             if v < 0x1_0000_0000 {
                 Reading32::Word(Word32(v as u32))
             } else {
                 Reading32::Unreadable
             }
         }
-        Mended::Unreadable => Reading32::Unreadable,
+        Reading64::Unreadable => Reading32::Unreadable,
     }
 }
 

@@ -1,7 +1,6 @@
 // The next XGEM frame of what is left of a payload.
 ghost use mathlib.Core.Path.{_≡_};
 ghost use lib.ListN.{length};
-ghost use Rattle.bch.specs.Tables.{Syndromes, Flips};
 ghost use Rattle.payload.specs.Frames.{nextOf};
 ghost use Rattle.payload.specs.Inside.{Inside};
 use framing::xgem;
@@ -14,11 +13,10 @@ pub enum Next {
     Frame(XgemHeader),
 }
 
-pub(crate) fn next_frame(syndromes: &[u16; 2048], flips: &[u16; 4096], left: &[u8]) -> Next
-    requires { ⌜ Syndromes (now syndromes) × Flips (now flips) ⌝ }
+pub(crate) fn next_frame(left: &[u8]) -> Next
     ensures { λ r. ⌜ (r ≡ nextOf (now (left .entry))) × (Inside r (length (now (left .entry)))) ⌝ }
 {
-    let read = hec::read64_by(syndromes, flips, framing::word_ahead(left));
+    let read = hec::read64_by_octets(framing::word_ahead(left));
     if left.len() < 8 {
         return Next::Done;
     }

@@ -8,4 +8,3 @@ pub use walk::Delineation;
 pub use walk::MEMORY_BYTES;
 pub use walk::Received;
 pub use walk::receive;
-pub use walk::receive_by;

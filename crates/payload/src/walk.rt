@@ -1,8 +1,6 @@
 // The walk over a payload.
 ghost use mathlib.Core.Path.{_≡_};
-ghost use Prim.Native.Nat.{_+_, _≤_};
 ghost use lib.ListN.{length};
-ghost use Rattle.bch.specs.Tables.{Syndromes, Flips};
 ghost use Rattle.ports.specs.Ports.{dropAll};
 ghost use Rattle.payload.specs.Bounds.{Ready};
 ghost use Rattle.payload.specs.Walk.{walkOf, allWithin, receiveOf};
@@ -86,8 +84,6 @@ fn together(ids: [PortId; 16], lengths: [u16; 17], waiting: [bool; 17]) -> Ports
 }
 
 fn walk_frames(
-    syndromes: &[u16; 2048],
-    flips: &[u16; 4096],
     ports: Ports,
     own: PortId,
     memory: &mut [u8],
@@ -95,7 +91,6 @@ fn walk_frames(
     place: usize,
     payload: &[u8],
 ) -> Received
-    requires { ⌜ Syndromes (now syndromes) × Flips (now flips) ⌝ }
     requires { ⌜ Ready (record { ports = ports; bytes = 0; memory = now memory; deliveries = now deliveries }) (length (now payload)) ⌝ }
     ensures { λ r. ⌜ record { receiver = record { ports = r .ports; bytes = r .bytes; memory = now (memory .exit); deliveries = now (deliveries .exit) }; delineation = r .delineation } ≡ walkOf own (record { ports = ports; bytes = 0; memory = now (memory .entry); deliveries = now (deliveries .entry) }) place (now (payload .entry)) ⌝ }
 {
@@ -105,7 +100,7 @@ fn walk_frames(
     let mut bytes: usize = 0;
     let mut at: usize = 0;
     loop {
-        let next = frames::next_frame(syndromes, flips, &payload[at..]);
+        let next = frames::next_frame(&payload[at..]);
         match next {
             Next::Done => {
                 return kept(together(ids, lengths, waiting), bytes);
@@ -136,11 +131,8 @@ fn walk_frames(
     }
 }
 
-// The payload of a frame in O5, where `own` is the management port and `place` is where the payload begins in the frame, by
-// lent tables: whoever has named them for other headers lends them on.
-pub fn receive_by(
-    syndromes: &[u16; 2048],
-    flips: &[u16; 4096],
+// The payload of a frame in O5, where `own` is the management port and `place` is where the payload begins in the frame.
+pub fn receive(
     ports: Ports,
     own: PortId,
     memory: &mut [u8],
@@ -148,7 +140,6 @@ pub fn receive_by(
     place: usize,
     payload: &[u8],
 ) -> Received
-    requires { ⌜ Syndromes (now syndromes) × Flips (now flips) ⌝ }
     ensures { λ r. ⌜ record { receiver = record { ports = r .ports; bytes = r .bytes; memory = now (memory .exit); deliveries = now (deliveries .exit) }; delineation = r .delineation } ≡ receiveOf ports own (now (memory .entry)) (now (deliveries .entry)) place (now (payload .entry)) ⌝ }
 {
     let lengths = ports.lengths;
@@ -164,39 +155,5 @@ pub fn receive_by(
     if deliveries.len() - MEMORY_BYTES < payload.len() {
         return unfit(ports);
     }
-    walk_frames(
-        syndromes,
-        flips,
-        ports,
-        own,
-        memory,
-        deliveries,
-        place,
-        payload,
-    )
-}
-
-// The same by tables that are named here.
-pub fn receive(
-    ports: Ports,
-    own: PortId,
-    memory: &mut [u8],
-    deliveries: &mut [u8],
-    place: usize,
-    payload: &[u8],
-) -> Received
-    ensures { λ r. ⌜ record { receiver = record { ports = r .ports; bytes = r .bytes; memory = now (memory .exit); deliveries = now (deliveries .exit) }; delineation = r .delineation } ≡ receiveOf ports own (now (memory .entry)) (now (deliveries .entry)) place (now (payload .entry)) ⌝ }
-{
-    let syndromes = bch::syndromes::table();
-    let flips = bch::flips::table();
-    receive_by(
-        &syndromes,
-        &flips,
-        ports,
-        own,
-        memory,
-        deliveries,
-        place,
-        payload,
-    )
+    walk_frames(ports, own, memory, deliveries, place, payload)
 }

@@ -5,7 +5,6 @@ ghost use mathlib.Core.Path.{_≡_};
 ghost use Prim.Native.Nat.{min, _*_, _≤_, _<_, _^_};
 ghost use Rattle.ploam.specs.Layout.{messageOctets};
 ghost use lib.ListN.{length};
-ghost use Rattle.aes.specs.MixTable.{mixTable};
 ghost use Rattle.cmac.specs.ByTable.{Ready};
 ghost use Rattle.link.specs.Limits.{keyOctets};
 ghost use Rattle.replies.specs.Replies.{Keyed, wrote, Left, repliesFrom, Replied};
@@ -70,37 +69,22 @@ fn prepared(t: &[u32; 1024], octets: [u8; 16]) -> Prepared
     cmac::prepare(t, octets)
 }
 
-// The replies of n planned PLOAMu bursts, as far as the buffer has room for them; past them it keeps its octets. The table
-// of AES is lent: whoever has named it for other messages lends it on.
-pub fn reply_all_by(
-    t: &[u32; 1024],
-    s: Station,
-    n: usize,
-    delay: u32,
-    replies: &mut [u8],
-) -> Station
-    requires { ⌜ now t ≡ mixTable ⌝ }
+// The replies of n planned PLOAMu bursts, as far as the buffer has room for them; past them it keeps its octets.
+pub fn reply_all(s: Station, n: usize, delay: u32, replies: &mut [u8]) -> Station
     ensures { λ r. ⌜ Replied s n delay (now (replies .entry)) (record { station = r; octets = now (replies .exit) }) ⌝ }
 {
     let k = fewer(n, replies.len() / MESSAGE_OCTETS);
     if k == 0 {
         return s;
     }
+    let t = aes::mix::table();
     let usual = integrity::default_key();
     let link = s.link;
     let key = link.key;
     let octets = key.octets;
     if key.held {
-        let installed = prepared(t, octets);
-        return write_each(t, usual, installed, s, k, delay, replies);
+        let installed = prepared(&t, octets);
+        return write_each(&t, usual, installed, s, k, delay, replies);
     }
-    write_each(t, usual, usual, s, k, delay, replies)
-}
-
-// The same by a table that is named here.
-pub fn reply_all(s: Station, n: usize, delay: u32, replies: &mut [u8]) -> Station
-    ensures { λ r. ⌜ Replied s n delay (now (replies .entry)) (record { station = r; octets = now (replies .exit) }) ⌝ }
-{
-    let t = aes::mix::table();
-    reply_all_by(&t, s, n, delay, replies)
+    write_each(&t, usual, usual, s, k, delay, replies)
 }

@@ -2,7 +2,6 @@
 // the walk does, and touches no memory.
 ghost use mathlib.Core.Path.{_≡_};
 ghost use lib.ListN.{length};
-ghost use Rattle.bch.specs.Tables.{Syndromes, Flips};
 ghost use Rattle.fragments.specs.Within.{Within};
 ghost use Rattle.payload.specs.Frames.{nextOf};
 ghost use Rattle.payload.specs.Inside.{Inside};
@@ -87,11 +86,10 @@ fn settle(seek: Seek, lost: bool) -> StretchPlace
 
 // What payload's `frames::next_frame` finds. The search has a function of its own for it, as for a fragment's effect: with a second
 // caller those of the walk were no longer merged into its loop.
-fn next_ahead(syndromes: &[u16; 2048], flips: &[u16; 4096], left: &[u8]) -> Next
-    requires { ⌜ Syndromes (now syndromes) × Flips (now flips) ⌝ }
+fn next_ahead(left: &[u8]) -> Next
     ensures { λ r. ⌜ (r ≡ nextOf (now (left .entry))) × (Inside r (length (now (left .entry)))) ⌝ }
 {
-    let read = xgem::read_xgem_by(syndromes, flips, left);
+    let read = xgem::read_xgem(left);
     match read {
         XgemRead::Short => Next::Done,
         XgemRead::Unreadable => Next::Lost,
@@ -126,13 +124,11 @@ fn moved(ports: Ports, effect: Effect, n: usize) -> Ports
 pub fn stretch_place(ports: Ports, own: PortId, payload: &[u8], k: usize) -> StretchPlace
     ensures { λ r. ⌜ r ≡ stretchOf own ports (now (payload .entry)) k ⌝ }
 {
-    let syndromes = bch::syndromes::table();
-    let flips = bch::flips::table();
     let mut held = ports;
     let mut seek = Seek::Ahead(k);
     let mut at: usize = 0;
     loop {
-        let next = next_ahead(&syndromes, &flips, &payload[at..]);
+        let next = next_ahead(&payload[at..]);
         match next {
             Next::Done => {
                 return settle(seek, false);

@@ -2,8 +2,6 @@
 ghost use mathlib.Core.Path.{_≡_};
 ghost use Prim.Native.Nat.{_+_, _-_, _*_, _/_, _≤_};
 ghost use lib.ListN.{length, take, drop};
-ghost use Rattle.aes.specs.MixTable.{mixTable};
-ghost use Rattle.bwmap.specs.Tables.{Tables};
 ghost use Rattle.payload.specs.Memory.{put};
 ghost use Rattle.trace.specs.Records.{records};
 ghost use Rattle.trace.specs.Runs.{shown, turned};
@@ -20,9 +18,6 @@ pub struct Handled {
 
 // Records one after another, of which the input holds enough. A line has at most 126 bytes.
 fn print_records(
-    syndromes: &[u16; 2048],
-    flips: &[u16; 4096],
-    mix: &[u32; 1024],
     run: Run,
     input: &[u8],
     count: usize,
@@ -32,7 +27,7 @@ fn print_records(
     deliveries: &mut [u8],
     text: &mut [u8],
 ) -> Printed
-    requires { ⌜ Tables (now syndromes) (now flips) × (now mix ≡ mixTable) × (1024 * count ≤ length (now input)) × (126 * count ≤ length (now text)) ⌝ }
+    requires { ⌜ (1024 * count ≤ length (now input)) × (126 * count ≤ length (now text)) ⌝ }
     ensures { λ r. ⌜ (record { at = record { run = r .run; lent = record { memory = now (memory .exit); plan = now (plan .exit); replies = now (replies .exit); deliveries = now (deliveries .exit) } }; text = now (text .exit); place = r .place } ≡ shown (record { run = run; lent = record { memory = now (memory .entry); plan = now (plan .entry); replies = now (replies .entry); deliveries = now (deliveries .entry) } }) (records count (now (input .entry))) (now (text .entry)) 0) × (r .place ≤ 126 * count) ⌝ }
 {
     let mut p = Printed { run: run, place: 0 };
@@ -42,9 +37,6 @@ fn print_records(
         let to = from + records::RECORD;
         let run = p.run;
         p = records::print_record(
-            syndromes,
-            flips,
-            mix,
             run,
             &input[from..to],
             memory,
@@ -74,9 +66,6 @@ fn move_to_front(input: &mut [u8], from: usize, to: usize)
 
 // A read has filled the input up to a place.
 pub(crate) fn turn(
-    syndromes: &[u16; 2048],
-    flips: &[u16; 4096],
-    mix: &[u32; 1024],
     run: Run,
     input: &mut [u8],
     filled: usize,
@@ -86,24 +75,12 @@ pub(crate) fn turn(
     deliveries: &mut [u8],
     text: &mut [u8],
 ) -> Handled
-    requires { ⌜ Tables (now syndromes) (now flips) × (now mix ≡ mixTable) × (filled ≤ length (now input)) × (126 * (filled / 1024) ≤ length (now text)) ⌝ }
+    requires { ⌜ (filled ≤ length (now input)) × (126 * (filled / 1024) ≤ length (now text)) ⌝ }
     ensures { λ r. ⌜ (record { at = record { run = r .run; lent = record { memory = now (memory .exit); plan = now (plan .exit); replies = now (replies .exit); deliveries = now (deliveries .exit) } }; input = now (input .exit); kept = r .kept; text = now (text .exit); written = r .written } ≡ turned (record { run = run; lent = record { memory = now (memory .entry); plan = now (plan .entry); replies = now (replies .entry); deliveries = now (deliveries .entry) } }) (now (input .entry)) filled (now (text .entry))) × (r .kept ≤ 1023) × (r .written ≤ 126 * (filled / 1024)) ⌝ }
 {
     let count = filled / records::RECORD;
     let used = count * records::RECORD;
-    let p = print_records(
-        syndromes,
-        flips,
-        mix,
-        run,
-        input,
-        count,
-        memory,
-        plan,
-        replies,
-        deliveries,
-        text,
-    );
+    let p = print_records(run, input, count, memory, plan, replies, deliveries, text);
     move_to_front(input, used, filled);
     let next = p.run;
     Handled {

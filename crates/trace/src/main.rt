@@ -63,9 +63,6 @@ fn finish(run: Run, kept: usize, text: &mut [u8])
 // A proved loop has to end, and nothing says that the input does: the turns are counted down from a number that no run
 // uses up.
 fn main() {
-    let syndromes = bch::syndromes::table();
-    let flips = bch::flips::table();
-    let mix = aes::mix::table();
     let mut input = [0u8; 65536];
     let mut memory = [0u8; 34816];
     let mut plan = [0u16; 256];
@@ -80,9 +77,6 @@ fn main() {
         match read_on(&mut input, kept) {
             Got::Filled(filled) => {
                 let h = blocks::turn(
-                    &syndromes,
-                    &flips,
-                    &mix,
                     run,
                     &mut input,
                     filled,

@@ -2,8 +2,6 @@
 ghost use mathlib.Core.Path.{_≡_};
 ghost use Prim.Native.Nat.{_+_, _≤_};
 ghost use lib.ListN.{length};
-ghost use Rattle.aes.specs.MixTable.{mixTable};
-ghost use Rattle.bwmap.specs.Tables.{Tables};
 ghost use Rattle.payload.specs.Memory.{put};
 ghost use Rattle.trace.specs.Records.{kindOf};
 ghost use Rattle.trace.specs.Runs.{start, onward, stop, lineOf, step, shownBy};
@@ -125,12 +123,8 @@ fn print_outcome(run: Run, o: Outcome, text: &mut [u8], place: usize) -> Printed
     }
 }
 
-// One record: it acts on the station, and its line is put into the text. After a bad record nothing acts or is printed. The
-// tables are lent: a run names each once.
+// One record: it acts on the station, and its line is put into the text. After a bad record nothing acts or is printed.
 pub(crate) fn print_record(
-    syndromes: &[u16; 2048],
-    flips: &[u16; 4096],
-    mix: &[u32; 1024],
     run: Run,
     octets: &[u8],
     memory: &mut [u8],
@@ -140,7 +134,7 @@ pub(crate) fn print_record(
     text: &mut [u8],
     place: usize,
 ) -> Printed
-    requires { ⌜ Tables (now syndromes) (now flips) × (now mix ≡ mixTable) × (place + 126 ≤ length (now text)) ⌝ }
+    requires { ⌜ place + 126 ≤ length (now text) ⌝ }
     ensures { λ r. ⌜ (record { at = record { run = r .run; lent = record { memory = now (memory .exit); plan = now (plan .exit); replies = now (replies .exit); deliveries = now (deliveries .exit) } }; text = now (text .exit); place = r .place } ≡ shownBy (step (record { run = run; lent = record { memory = now (memory .entry); plan = now (plan .entry); replies = now (replies .entry); deliveries = now (deliveries .entry) } }) (now (octets .entry))) (now (text .entry)) place) × (r .place ≤ place + 126) ⌝ }
 {
     if run.stopped {
@@ -169,18 +163,7 @@ pub(crate) fn print_record(
             )
         }
         Kind::Frame => {
-            let o = engine::frame_by(
-                syndromes,
-                flips,
-                mix,
-                s,
-                memory,
-                &octets[HEAD..],
-                0,
-                plan,
-                replies,
-                deliveries,
-            );
+            let o = engine::frame(s, memory, &octets[HEAD..], 0, plan, replies, deliveries);
             print_outcome(run, o, text, place)
         }
         Kind::Bad => {

@@ -1,6 +1,7 @@
-// Annex A: Table A.1's syndromes are the table that reading and writing go by; each structure of Tables A.2 and A.3 is
-// read as itself and written from its data bits, with one or two bits flipped it reads as itself, with three it is
-// unreadable; and a word of 32 bits is not mended in the zeros that are not sent. Each line says how many of how many.
+// Annex A: Table A.1's syndromes are the check values that words are written by, and read by where it is place by place; each
+// structure of Tables A.2 and A.3 is read as itself and written from its data bits, with one or two bits flipped it reads as
+// itself, with three it is unreadable; and a word of 32 bits is not mended in the zeros that are not sent. A word of 64 bits
+// is read by its places and by its octets, and is right only where both are. Each line says how many of how many.
 use hec::Reading32;
 use hec::Reading64;
 use libc::STDOUT_FILENO;
@@ -138,10 +139,11 @@ const TABLE_A3: [u32; 24] = [
     0x2020162f,
 ];
 
-// What a word reads as, or that it is unreadable.
+// What a word reads as, that it is unreadable, or that its two readings differ.
 enum Outcome {
     Reads(u64),
     Unreadable,
+    Differ,
 }
 
 fn line(name: &[u8], right: u64, of: u64) {
@@ -178,86 +180,78 @@ fn outcome32(r: Reading32) -> Outcome {
     }
 }
 
-// A word of 64 bits, or a short one of 32, as the lent tables read it.
-fn read(syndromes: &[u16; 2048], flips: &[u16; 4096], short: bool, word: u64) -> Outcome {
-    if short {
-        outcome32(hec::read32_by(syndromes, flips, (word % 0x1_0000_0000) as u32))
-    } else {
-        outcome64(hec::read64_by(syndromes, flips, word))
-    }
-}
-
 fn is_wanted(found: Outcome, mended: bool, wanted: u64) -> bool {
     match found {
         Outcome::Reads(v) => mended && v == wanted,
         Outcome::Unreadable => !mended,
+        Outcome::Differ => false,
+    }
+}
+
+fn same(one: Outcome, other: Outcome) -> bool {
+    match one {
+        Outcome::Reads(v) => is_wanted(other, true, v),
+        Outcome::Unreadable => is_wanted(other, false, 0),
+        Outcome::Differ => false,
+    }
+}
+
+// A word of 64 bits by its places and by its octets: what both read it as.
+fn both(word: u64) -> Outcome {
+    let by_places = outcome64(hec::read64(word));
+    let by_octets = outcome64(hec::read64_by_octets(word));
+    if same(by_places, by_octets) {
+        by_places
+    } else {
+        Outcome::Differ
+    }
+}
+
+// A word of 64 bits, or a short one of 32.
+fn read(short: bool, word: u64) -> Outcome {
+    if short {
+        outcome32(hec::read32((word % 0x1_0000_0000) as u32))
+    } else {
+        both(word)
     }
 }
 
 // How many of the words with one of the lowest bits flipped read as wanted, or are unreadable if it is not to be mended.
-fn one_flip(
-    syndromes: &[u16; 2048],
-    flips: &[u16; 4096],
-    bits: u32,
-    mended: bool,
-    wanted: u64,
-    word: u64,
-    below: u32,
-) -> u64
+fn one_flip(bits: u32, mended: bool, wanted: u64, word: u64, below: u32) -> u64
     requires { ⌜ below ≤ 64 ⌝ }
 {
     let mut right: u64 = 0;
     let mut at: u32 = 0;
     while at < below {
         let flip: u64 = 1 << at;
-        let found = read(syndromes, flips, bits == 32, word ^ flip);
+        let found = read(bits == 32, word ^ flip);
         right = counted(right, one_if(is_wanted(found, mended, wanted)));
         at += 1;
     }
     right
 }
 
-fn two_flips(
-    syndromes: &[u16; 2048],
-    flips: &[u16; 4096],
-    bits: u32,
-    mended: bool,
-    wanted: u64,
-    word: u64,
-    below: u32,
-) -> u64
+fn two_flips(bits: u32, mended: bool, wanted: u64, word: u64, below: u32) -> u64
     requires { ⌜ below ≤ 64 ⌝ }
 {
     let mut right: u64 = 0;
     let mut at: u32 = 0;
     while at < below {
         let flip: u64 = 1 << at;
-        right = counted(
-            right,
-            one_flip(syndromes, flips, bits, mended, wanted, word ^ flip, at),
-        );
+        right = counted(right, one_flip(bits, mended, wanted, word ^ flip, at));
         at += 1;
     }
     right
 }
 
-fn three_flips(
-    syndromes: &[u16; 2048],
-    flips: &[u16; 4096],
-    bits: u32,
-    wanted: u64,
-    word: u64,
-) -> u64
+fn three_flips(bits: u32, wanted: u64, word: u64) -> u64
     requires { ⌜ bits ≤ 64 ⌝ }
 {
     let mut right: u64 = 0;
     let mut at: u32 = 0;
     while at < bits {
         let flip: u64 = 1 << at;
-        right = counted(
-            right,
-            two_flips(syndromes, flips, bits, false, wanted, word ^ flip, at),
-        );
+        right = counted(right, two_flips(bits, false, wanted, word ^ flip, at));
         at += 1;
     }
     right
@@ -286,9 +280,7 @@ struct Counts {
 }
 
 fn stands(mut c: Counts, bits: u32, word: u64, written: u64) -> Counts {
-    let syndromes = bch::syndromes::table();
-    let flips = bch::flips::table();
-    let found = read(&syndromes, &flips, bits == 32, word);
+    let found = read(bits == 32, word);
     c.read = counted(c.read, one_if(is_wanted(found, true, word)));
     c.written = counted(c.written, one_if(written == word));
     c
@@ -297,11 +289,9 @@ fn stands(mut c: Counts, bits: u32, word: u64, written: u64) -> Counts {
 fn flipped(mut c: Counts, bits: u32, word: u64) -> Counts
     requires { ⌜ bits ≤ 64 ⌝ }
 {
-    let s = bch::syndromes::table();
-    let f = bch::flips::table();
-    let one = one_flip(&s, &f, bits, true, word, word, bits);
-    let two = two_flips(&s, &f, bits, true, word, word, bits);
-    let three = three_flips(&s, &f, bits, word, word);
+    let one = one_flip(bits, true, word, word, bits);
+    let two = two_flips(bits, true, word, word, bits);
+    let three = three_flips(bits, word, word);
     c.one = counted(c.one, one);
     c.two = counted(c.two, two);
     c.three = counted(c.three, three);
@@ -369,17 +359,12 @@ fn with_syndrome(syndrome: u16) -> u64 {
 }
 
 // The 31 words, one for each sent bit and the unsent bit at `above`, whose only repair would flip that zero.
-fn unsent_at(
-    syndromes: &[u16; 2048],
-    remainders: &[u16; 63],
-    flips: &[u16; 4096],
-    above: u16,
-) -> u64 {
+fn unsent_at(remainders: &[u16; 63], above: u16) -> u64 {
     let mut right: u64 = 0;
     let mut k: usize = 0;
     while k < 31 {
         let word = with_syndrome(above ^ remainders[k]);
-        let found = read(syndromes, flips, true, word);
+        let found = read(true, word);
         right = counted(right, one_if(is_wanted(found, false, 0)));
         k += 1;
     }
@@ -387,14 +372,12 @@ fn unsent_at(
 }
 
 fn unsent_zeros() {
-    let syndromes = bch::syndromes::table();
     let remainders = bch::remainders::table();
-    let flips = bch::flips::table();
     let mut right: u64 = 0;
     let mut k: usize = 31;
     while k < 63 {
         let above = remainders[k];
-        right = counted(right, unsent_at(&syndromes, &remainders, &flips, above));
+        right = counted(right, unsent_at(&remainders, above));
         k += 1;
     }
     line(b"HLend not mended in unsent zeros", right, 32 * 31);

@@ -38,6 +38,6 @@ back-allocation AllocationShort = refl
 pub read-hlend-once : (x : Found Hlend) (a b : HlendRead) → foundHlend a ≡ x → foundHlend b ≡ x → a ≡ b
 read-hlend-once = told-once foundHlend tellHlend back-hlend
 
--- read_allocation, read_allocation_by
+-- read_allocation
 pub read-allocation-once : (x : Found Allocation) (a b : AllocationRead) → foundAllocation a ≡ x → foundAllocation b ≡ x → a ≡ b
 read-allocation-once = told-once foundAllocation tellAllocation back-allocation

@@ -1,4 +1,3 @@
-pub mod Lent
 pub mod Layouts
 pub mod RoundTrips
 pub mod Determined

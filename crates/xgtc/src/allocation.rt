@@ -6,9 +6,8 @@ use hec::Word64;
 use ids::AllocId;
 ghost use mathlib.Core.Path.{_≡_};
 ghost use Rattle.hec.specs.Reads.{found64};
-ghost use Rattle.hec.specs.Lent.{readingBy};
 ghost use Rattle.xgtc.specs.Layouts.{allocationOf, allocationFits, allocationBits};
-ghost use Rattle.framing.specs.Reads.{taken, readAs};
+ghost use Rattle.framing.specs.Reads.{taken};
 ghost use Rattle.xgtc.specs.Reads.{readAllocation, foundAllocation};
 ghost use Rattle.xgtc.specs.Writes.{writeAllocation};
 
@@ -81,16 +80,6 @@ pub fn read_allocation(s: &[u8]) -> AllocationRead
         return AllocationRead::Short;
     }
     found(hec::read64(octets::word_ahead(s)))
-}
-
-// The same by lent tables, for a walk over a map.
-pub fn read_allocation_by(syndromes: &[u16; 2048], flips: &[u16; 4096], s: &[u8]) -> AllocationRead
-    ensures { λ r. ⌜ foundAllocation r ≡ readAs (readingBy (now (syndromes .entry)) (now (flips .entry)) 8) 8 allocationOf (now (s .entry)) ⌝ }
-{
-    if s.len() < 8 {
-        return AllocationRead::Short;
-    }
-    found(hec::read64_by(syndromes, flips, octets::word_ahead(s)))
 }
 
 // The allocation structure of the fields given, at the start of a target.

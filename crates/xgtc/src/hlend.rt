@@ -5,10 +5,9 @@ use hec::Reading32;
 use hec::Word32;
 ghost use mathlib.Core.Path.{_≡_};
 ghost use Rattle.hec.specs.Reads.{found32};
-ghost use Rattle.hec.specs.Lent.{readingBy, sent};
 ghost use Rattle.framing.specs.Layouts.{behind};
 ghost use Rattle.xgtc.specs.Layouts.{hlendOf, hlendFits};
-ghost use Rattle.framing.specs.Reads.{taken, readAs};
+ghost use Rattle.framing.specs.Reads.{taken};
 ghost use Rattle.xgtc.specs.Reads.{readHlend, foundHlend};
 ghost use Rattle.xgtc.specs.Writes.{writeHlend};
 
@@ -55,16 +54,6 @@ pub fn read_hlend(s: &[u8]) -> HlendRead
         return HlendRead::Short;
     }
     found(hec::read32(octets::word32(s)))
-}
-
-// The same by lent tables, for a whole frame.
-pub fn read_hlend_by(syndromes: &[u16; 2048], flips: &[u16; 4096], s: &[u8]) -> HlendRead
-    ensures { λ r. ⌜ foundHlend r ≡ readAs (λ w. sent (readingBy (now (syndromes .entry)) (now (flips .entry)) 4 w)) 4 hlendOf (now (s .entry)) ⌝ }
-{
-    if s.len() < 4 {
-        return HlendRead::Short;
-    }
-    found(hec::read32_by(syndromes, flips, octets::word32(s)))
 }
 
 // HLend of the fields given, at the start of a target.

@@ -5,23 +5,14 @@ use native.Mathlib.Omega.{arith}
 use borrow.Author.Tests.{lt-leb, le-leb}
 use denote.Ref.{now}
 use lib.ListN.{length}
-use Rattle.xgtc.specs.Reads.{foundHlend, readHlend}
-use Rattle.xgtc.proofs.Lent.{lent-hlend}
+use Rattle.xgtc.specs.Reads.{foundHlend}
 use Rattle.arrival.specs.Partitions.{headerEnd}
 use borrow.Author.Needs.{needs}
 use Rattle.arrival.proofs.by_hlend.Statement.{statement}
 use Rattle.arrival.proofs.by_hlend.Tie as tie
 
--- the lent tables are the true ones
-read : (c : tie.After-read-hlend-by) → foundHlend (c .read-hlend-by .result) ≡ readHlend (now (c .before .before .before .before .before .before .args .frame))
-read c =
-    let a = c .before .before .before .before .before .before .args in
-    let tables = c .before .before .before .before .before .before .pre .0 in
-    c .read-hlend-by .ensures
-    ∙ lent-hlend (now (a .syndromes)) (now (a .flips)) (tables .octets) (tables .repairs) (now (a .frame)) (λ i. omega (arith, c .before .before .before .before .shared-slice-known .given i))
-
-read-hlend-by-requires : tie.Need-read-hlend-by-requires
-read-hlend-by-requires c κs = search needs
+read-hlend-requires : tie.Need-read-hlend-requires
+read-hlend-requires c κs = search needs
 
 enum-known-h : tie.Need-enum-known-h
 enum-known-h c = search needs
@@ -36,7 +27,7 @@ without-requires : tie.Need-without-requires
 without-requires c κs = search needs
 
 returns : tie.Need-returns
-returns c = rw (sym (read (c .before .before .before .before .before .before .before)) ∙ ap foundHlend (c .before .before .before .before .before .h .given .1), lt-leb (headerEnd (c .before .before .before .before .before .h .given .0 .0)) (length (now ((c .before .before .before .before .before .before .before .before .before .before .before .before .before) .args .frame))) (omega (arith, c .before .before .before .header-end .ensures, c .before .before .if1 .taken)), c .without .ensures, c .before .unread-time .ensures)
+returns c = rw (sym (c .before .before .before .before .before .before .before .read-hlend .ensures) ∙ ap foundHlend (c .before .before .before .before .before .h .given .1), lt-leb (headerEnd (c .before .before .before .before .before .h .given .0 .0)) (length (now (c .before .before .before .before .before .before .before .before .before .before .before .before .before .args .frame))) (omega (arith, c .before .before .before .header-end .ensures, c .before .before .if1 .taken)), c .without .ensures, c .before .unread-time .ensures)
 
 handle-requires : tie.Need-handle-requires
 handle-requires c κs = search needs
@@ -72,19 +63,19 @@ same-length-4 : tie.Need-same-length-4
 same-length-4 c = search needs
 
 returns-2 : tie.Need-returns-2
-returns-2 c = rw (sym (read (c .before .before .before .before .before .before .before .before .before .before .before .before .before .before .before .before .before .before)) ∙ ap foundHlend (c .before .before .before .before .before .before .before .before .before .before .before .before .before .before .before .before .h .given .1), le-leb (headerEnd (c .before .before .before .before .before .before .before .before .before .before .before .before .before .before .before .before .h .given .0 .0)) (length (now ((c .before .before .before .before .before .before .before .before .before .before .before .before .before .before .before .before .before .before .before .before .before .before .before .before) .args .frame))) (omega (arith, c .before .before .before .before .before .before .before .before .before .before .before .before .before .before .header-end .ensures, c .before .before .before .before .before .before .before .before .before .before .before .before .before .if1 .left))) (c .before .before .before .before .before .before .before .before .handle .ensures)
+returns-2 c = rw (sym (c .before .before .before .before .before .before .before .before .before .before .before .before .before .before .before .before .before .before .read-hlend .ensures) ∙ ap foundHlend (c .before .before .before .before .before .before .before .before .before .before .before .before .before .before .before .before .h .given .1), le-leb (headerEnd (c .before .before .before .before .before .before .before .before .before .before .before .before .before .before .before .before .h .given .0 .0)) (length (now (c .before .before .before .before .before .before .before .before .before .before .before .before .before .before .before .before .before .before .before .before .before .before .before .before .args .frame))) (omega (arith, c .before .before .before .before .before .before .before .before .before .before .before .before .before .before .header-end .ensures, c .before .before .before .before .before .before .before .before .before .before .before .before .before .if1 .left))) (c .before .before .before .before .before .before .before .before .handle .ensures)
 
 returns-3 : tie.Need-returns-3
-returns-3 c = rw (sym (read (c .before .before .before .before)) ∙ ap foundHlend (c .before .before .enum-told .given .1), c .without2 .ensures, c .before .unread-time2 .ensures)
+returns-3 c = rw (sym (c .before .before .before .before .read-hlend .ensures) ∙ ap foundHlend (c .before .before .enum-told .given .1), c .without2 .ensures, c .before .unread-time2 .ensures)
 
 returns-4 : tie.Need-returns-4
-returns-4 c = rw (sym (read (c .before .before .before .before)) ∙ ap foundHlend (c .before .before .enum-told2 .given .1), c .without3 .ensures, c .before .unread-time3 .ensures)
+returns-4 c = rw (sym (c .before .before .before .before .read-hlend .ensures) ∙ ap foundHlend (c .before .before .enum-told2 .given .1), c .without3 .ensures, c .before .unread-time3 .ensures)
 
 pub by-hlend-spec : {M : Type 1} → statement M
 by-hlend-spec =
     tie.close
     (tie.spec
-    read-hlend-by-requires
+    read-hlend-requires
     enum-known-h
     header-end-requires
     unread-time-requires

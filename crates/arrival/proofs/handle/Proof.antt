@@ -20,7 +20,7 @@ abbrev buffers : tie.Start → Lent
 buffers c = record { memory = now (c .args .memory); plan = now (c .args .plan); replies = now (c .args .replies); deliveries = now (c .args .deliveries) }
 
 fitting : (c : tie.Start) → Room (length (now (c .args .frame))) (buffers c)
-fitting c = room (length (now (c .args .frame))) (buffers c) (c .pre .4)
+fitting c = room (length (now (c .args .frame))) (buffers c) (c .pre .2)
 
 map-end-requires : tie.Need-map-end-requires
 map-end-requires c κs = search needs
@@ -38,25 +38,25 @@ part-plan-bursts-end : tie.Need-part-plan-bursts-end
 part-plan-bursts-end c = search needs
 
 plan-bursts-requires : tie.Need-plan-bursts-requires
-plan-bursts-requires c κs = ((c .before .before .before .before .before .before .before .before .before) .pre .0, fitting (c .before .before .before .before .before .before .before .before .before) .plan)
+plan-bursts-requires c κs = fitting (c .before .before .before .before .before .before .before .before .before) .plan
 
-reply-all-by-requires : tie.Need-reply-all-by-requires
-reply-all-by-requires c κs = search needs
+reply-all-requires : tie.Need-reply-all-requires
+reply-all-requires c κs = search needs
 
 sub-receive-payload : tie.Need-sub-receive-payload
-sub-receive-payload c = omega (arith, c .before .before .before .before .before .before .before .before .before .header-end .ensures, (c .before .before .before .before .before .before .before .before .before .before .before .before .before .before .before .before) .pre .3)
+sub-receive-payload c = omega (arith, c .before .before .before .before .before .before .before .before .before .header-end .ensures, c .before .before .before .before .before .before .before .before .before .before .before .before .before .before .before .before .pre .1)
 
 part-receive-payload-start : tie.Need-part-receive-payload-start
-part-receive-payload-start c = omega (arith, c .before .before .before .before .before .before .before .before .before .header-end .ensures, (c .before .before .before .before .before .before .before .before .before .before .before .before .before .before .before .before) .pre .3)
+part-receive-payload-start c = omega (arith, c .before .before .before .before .before .before .before .before .before .header-end .ensures, c .before .before .before .before .before .before .before .before .before .before .before .before .before .before .before .before .pre .1)
 
 part-receive-payload-end : tie.Need-part-receive-payload-end
 part-receive-payload-end c = search needs
 
 receive-payload-requires : tie.Need-receive-payload-requires
 receive-payload-requires c κs =
-    let f = now ((c .before .before .before .before .before .before .before .before .before .before .before .before .before .before .before .before .before .before .before) .args .frame) in
+    let f = now (c .before .before .before .before .before .before .before .before .before .before .before .before .before .before .before .before .before .before .before .args .frame) in
     let e = c .before .before .before .before .before .before .before .before .before .before .before .before .header-end .result in
-    ((c .before .before .before .before .before .before .before .before .before .before .before .before .before .before .before .before .before .before .before) .pre .0, (c .before .before .before .before .before .before .before .before .before .before .before .before .before .before .before .before .before .before .before) .pre .2, fitting (c .before .before .before .before .before .before .before .before .before .before .before .before .before .before .before .before .before .before .before) .memory, omega (arith, fitting (c .before .before .before .before .before .before .before .before .before .before .before .before .before .before .before .before .before .before .before) .deliveries, length-take (length f - e) (drop e f), length-drop e f))
+    (c .before .before .before .before .before .before .before .before .before .before .before .before .before .before .before .before .before .before .before .pre .0, fitting (c .before .before .before .before .before .before .before .before .before .before .before .before .before .before .before .before .before .before .before) .memory, omega (arith, fitting (c .before .before .before .before .before .before .before .before .before .before .before .before .before .before .before .before .before .before .before) .deliveries, length-take (length f - e) (drop e f), length-drop e f))
 
 with-ports-requires : tie.Need-with-ports-requires
 with-ports-requires c κs = search needs
@@ -64,17 +64,17 @@ with-ports-requires c κs = search needs
 with-carried-requires : tie.Need-with-carried-requires
 with-carried-requires c κs = search needs
 
-sub-receive-all-by : tie.Need-sub-receive-all-by
-sub-receive-all-by c = omega (arith, c .before .before .before .before .before .before .before .before .before .before .before .before .before .before .before .before .before .before .before .before .before .map-end .ensures, c .before .before .before .before .before .before .before .before .before .before .before .before .before .before .before .before .before .before .before .before .header-end .ensures)
+sub-receive-all : tie.Need-sub-receive-all
+sub-receive-all c = omega (arith, c .before .before .before .before .before .before .before .before .before .before .before .before .before .before .before .before .before .before .before .before .before .map-end .ensures, c .before .before .before .before .before .before .before .before .before .before .before .before .before .before .before .before .before .before .before .before .header-end .ensures)
 
-part-receive-all-by-start : tie.Need-part-receive-all-by-start
-part-receive-all-by-start c = omega (arith, c .before .before .before .before .before .before .before .before .before .before .before .before .before .before .before .before .before .before .before .before .before .map-end .ensures, c .before .before .before .before .before .before .before .before .before .before .before .before .before .before .before .before .before .before .before .before .header-end .ensures)
+part-receive-all-start : tie.Need-part-receive-all-start
+part-receive-all-start c = omega (arith, c .before .before .before .before .before .before .before .before .before .before .before .before .before .before .before .before .before .before .before .before .before .map-end .ensures, c .before .before .before .before .before .before .before .before .before .before .before .before .before .before .before .before .before .before .before .before .header-end .ensures)
 
-part-receive-all-by-end : tie.Need-part-receive-all-by-end
-part-receive-all-by-end c = omega (arith, c .before .before .before .before .before .before .before .before .before .before .before .before .before .before .before .before .before .before .before .before .before .map-end .ensures, c .before .before .before .before .before .before .before .before .before .before .before .before .before .before .before .before .before .before .before .before .header-end .ensures, (c .before .before .before .before .before .before .before .before .before .before .before .before .before .before .before .before .before .before .before .before .before .before .before .before .before .before .before) .pre .3)
+part-receive-all-end : tie.Need-part-receive-all-end
+part-receive-all-end c = omega (arith, c .before .before .before .before .before .before .before .before .before .before .before .before .before .before .before .before .before .before .before .before .before .map-end .ensures, c .before .before .before .before .before .before .before .before .before .before .before .before .before .before .before .before .before .before .before .before .header-end .ensures, c .before .before .before .before .before .before .before .before .before .before .before .before .before .before .before .before .before .before .before .before .before .before .before .before .before .before .before .pre .1)
 
-receive-all-by-requires : tie.Need-receive-all-by-requires
-receive-all-by-requires c κs = (c .before .before .before .before .before .before .before .before .before .before .before .before .before .before .before .before .before .before .before .before .before .before .before .before .before .before .before .before) .pre .1
+receive-all-requires : tie.Need-receive-all-requires
+receive-all-requires c κs = search needs
 
 is-ranging-requires : tie.Need-is-ranging-requires
 is-ranging-requires c κs = search needs
@@ -99,19 +99,19 @@ same-length-4 c = search needs
 
 returns : tie.Need-returns
 returns c =
-    let a = (c .before .before .before .before .before .before .before .before .before .before .before .before .before .before .before .before .before .before .before .before .before .before .before .before .before .before .before .before .before .before .before .before) .args in
+    let a = c .before .before .before .before .before .before .before .before .before .before .before .before .before .before .before .before .before .before .before .before .before .before .before .before .before .before .before .before .before .before .before .before .args in
     let f = now (a .frame) in
     let m = c .before .before .before .before .before .before .before .before .before .before .before .before .before .before .before .before .before .before .before .before .before .before .before .before .before .before .map-end .result in
     let e = c .before .before .before .before .before .before .before .before .before .before .before .before .before .before .before .before .before .before .before .before .before .before .before .before .before .header-end .result in
     let map = map-part (a .h) f m (c .before .before .before .before .before .before .before .before .before .before .before .before .before .before .before .before .before .before .before .before .before .before .before .before .before .before .map-end .ensures) in
     let rest = payload-part (a .h) f e (c .before .before .before .before .before .before .before .before .before .before .before .before .before .before .before .before .before .before .before .before .before .before .before .before .before .header-end .ensures) in
     let asked = messages-part (a .h) f m e (c .before .before .before .before .before .before .before .before .before .before .before .before .before .before .before .before .before .before .before .before .before .before .before .before .before .before .map-end .ensures) (c .before .before .before .before .before .before .before .before .before .before .before .before .before .before .before .before .before .before .before .before .before .before .before .before .before .header-end .ensures) in
-    from-stages (a .s) (a .h) f (a .delay) (buffers (c .before .before .before .before .before .before .before .before .before .before .before .before .before .before .before .before .before .before .before .before .before .before .before .before .before .before .before .before .before .before .before .before)) (c .before .before .before .before .before .before .before .before .before .before .before .before .before .before .before .before .before .before .before .before .before .before .plan-bursts .result) _ _ _ _ (c .before .before .before .before .before .before .before .before .before .before .before .before .before .before .before .before .before .before .reply-all-by .result) (c .before .before .before .before .before .before .before .before .before .before .before .before .receive-payload .result) (c .before .frame-end .result) (c .answer-to .result) (fitting (c .before .before .before .before .before .before .before .before .before .before .before .before .before .before .before .before .before .before .before .before .before .before .before .before .before .before .before .before .before .before .before .before))
+    from-stages (a .s) (a .h) f (a .delay) (buffers (c .before .before .before .before .before .before .before .before .before .before .before .before .before .before .before .before .before .before .before .before .before .before .before .before .before .before .before .before .before .before .before .before)) (c .before .before .before .before .before .before .before .before .before .before .before .before .before .before .before .before .before .before .before .before .before .before .plan-bursts .result) _ _ _ _ (c .before .before .before .before .before .before .before .before .before .before .before .before .before .before .before .before .before .before .reply-all .result) (c .before .before .before .before .before .before .before .before .before .before .before .before .receive-payload .result) (c .before .frame-end .result) (c .answer-to .result) (fitting (c .before .before .before .before .before .before .before .before .before .before .before .before .before .before .before .before .before .before .before .before .before .before .before .before .before .before .before .before .before .before .before .before))
     (c .before .before .before .before .before .before .before .before .before .before .before .before .before .before .before .before .before .before .before .before .before .before .plan-bursts .ensures .0 ∙ ap (λ (x : List ℕ). counted (a .s .carried) (plannedOf (ownOf (a .s)) x (a .s .carried))) map)
     (c .before .before .before .before .before .before .before .before .before .before .before .before .before .before .before .before .before .before .before .before .before .before .plan-bursts .ensures .1 ∙ ap (λ (x : List ℕ). written (plannedOf (ownOf (a .s)) x (a .s .carried)) (now (a .plan))) map)
-    (c .before .before .before .before .before .before .before .before .before .before .before .before .before .before .before .before .before .before .reply-all-by .ensures)
+    (c .before .before .before .before .before .before .before .before .before .before .before .before .before .before .before .before .before .before .reply-all .ensures)
     (c .before .before .before .before .before .before .before .before .before .before .before .before .receive-payload .ensures ∙ ap (λ (k : ℕ). walkedFrom (a .s) k (take (length f - e) (drop e f)) (now (a .memory)) (now (a .deliveries))) (c .before .before .before .before .before .before .before .before .before .before .before .before .before .before .before .before .before .before .before .before .before .before .before .before .before .header-end .ensures) ∙ ap (λ (x : List ℕ). walkedFrom (a .s) (headerEnd (a .h)) x (now (a .memory)) (now (a .deliveries))) rest)
-    (c .before .frame-end .ensures ∙ rw (c .before .before .before .receive-all-by .ensures, c .before .before .is-ranging .ensures, c .before .before .before .before .before .with-carried .ensures, c .before .before .before .before .before .before .with-ports .ensures, asked))
+    (c .before .frame-end .ensures ∙ rw (c .before .before .before .receive-all .ensures, c .before .before .is-ranging .ensures, c .before .before .before .before .before .with-carried .ensures, c .before .before .before .before .before .before .with-ports .ensures, asked))
     (c .answer-to .ensures)
 
 pub handle-spec : {M : Type 1} → statement M
@@ -124,17 +124,17 @@ handle-spec =
     part-plan-bursts-start
     part-plan-bursts-end
     plan-bursts-requires
-    reply-all-by-requires
+    reply-all-requires
     sub-receive-payload
     part-receive-payload-start
     part-receive-payload-end
     receive-payload-requires
     with-ports-requires
     with-carried-requires
-    sub-receive-all-by
-    part-receive-all-by-start
-    part-receive-all-by-end
-    receive-all-by-requires
+    sub-receive-all
+    part-receive-all-start
+    part-receive-all-end
+    receive-all-requires
     is-ranging-requires
     frame-end-requires
     answer-to-requires

@@ -8,8 +8,8 @@ use borrow.Author.Needs.{needs}
 use Rattle.arrival.proofs.plan_bursts.Statement.{statement}
 use Rattle.arrival.proofs.plan_bursts.Tie as tie
 
-plan-map-by-requires : tie.Need-plan-map-by-requires
-plan-map-by-requires c κs = search needs
+plan-map-requires : tie.Need-plan-map-requires
+plan-map-requires c κs = search needs
 
 plan-of-requires : tie.Need-plan-of-requires
 plan-of-requires c κs = search needs
@@ -19,9 +19,9 @@ same-length c = search needs
 
 returns : tie.Need-returns
 returns c =
-    let a = (c .before .before .before .before .before .before .before .before .before .before) .args in
-    let p = planned-fully (ownOf (a .s)) (now (a .map)) (a .s .carried) (now (a .plan)) (c .before .before .before .plan-map-by .result) _ ((c .before .before .before .before .before .before .before .before .before .before) .pre .1) (c .before .before .before .plan-map-by .ensures) in
+    let a = c .before .before .before .before .before .before .before .before .before .before .args in
+    let p = planned-fully (ownOf (a .s)) (now (a .map)) (a .s .carried) (now (a .plan)) (c .before .before .before .plan-map .result) _ (c .before .before .before .before .before .before .before .before .before .before .pre) (c .before .before .before .plan-map .ensures) in
     (c .plan-of .ensures ∙ p .0, p .1)
 
 pub plan-bursts-spec : {M : Type 1} → statement M
-plan-bursts-spec = tie.close (tie.spec plan-map-by-requires plan-of-requires same-length returns)
+plan-bursts-spec = tie.close (tie.spec plan-map-requires plan-of-requires same-length returns)

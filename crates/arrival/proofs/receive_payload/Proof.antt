@@ -22,8 +22,8 @@ returns c = rw (sym (c .before .is-operating .ensures) ∙ not-true _ (c .if1 .t
 management-port-requires : tie.Need-management-port-requires
 management-port-requires c κs = search needs
 
-receive-by-requires : tie.Need-receive-by-requires
-receive-by-requires c κs = search needs
+receive-requires : tie.Need-receive-requires
+receive-requires c κs = search needs
 
 same-length : tie.Need-same-length
 same-length c = search needs
@@ -33,8 +33,8 @@ same-length-2 c = search needs
 
 returns-2 : tie.Need-returns-2
 returns-2 c =
-    let a = (c .before .before .before .before .before .before .before .before .before .before .before .before .before .before .before .before) .args in
-    payload-received (a .s) (a .place) (now (a .payload)) (now (a .memory)) (now (a .deliveries)) (c .before .before .before .before .before .before .before .management-port .result) _ (long (c .before .before .before .before .before .before .before .before .before .before .before .before .before .before .before .before)) ((c .before .before .before .before .before .before .before .before .before .before .before .before .before .before .before .before) .pre .1) ((c .before .before .before .before .before .before .before .before .before .before .before .before .before .before .before .before) .pre .2) ((c .before .before .before .before .before .before .before .before .before .before .before .before .before .before .before .before) .pre .3) (sym (c .before .before .before .before .before .before .before .before .before .before .before .is-operating .ensures) ∙ not-false _ (c .before .before .before .before .before .before .before .before .before .before .if1 .left)) (c .before .before .before .before .before .before .before .management-port .ensures) (c .before .before .before .before .receive-by .ensures)
+    let a = c .before .before .before .before .before .before .before .before .before .before .before .before .before .before .before .before .args in
+    payload-received (a .s) (a .place) (now (a .payload)) (now (a .memory)) (now (a .deliveries)) (c .before .before .before .before .before .before .before .management-port .result) _ (long (c .before .before .before .before .before .before .before .before .before .before .before .before .before .before .before .before)) (c .before .before .before .before .before .before .before .before .before .before .before .before .before .before .before .before .pre .0) (c .before .before .before .before .before .before .before .before .before .before .before .before .before .before .before .before .pre .1) (c .before .before .before .before .before .before .before .before .before .before .before .before .before .before .before .before .pre .2) (sym (c .before .before .before .before .before .before .before .before .before .before .before .is-operating .ensures) ∙ not-false _ (c .before .before .before .before .before .before .before .before .before .before .if1 .left)) (c .before .before .before .before .before .before .before .management-port .ensures) (c .before .before .before .before .receive .ensures)
 
 pub receive-payload-spec : {M : Type 1} → statement M
 receive-payload-spec =
@@ -43,7 +43,7 @@ receive-payload-spec =
     is-operating-requires
     returns
     management-port-requires
-    receive-by-requires
+    receive-requires
     same-length
     same-length-2
     returns-2)

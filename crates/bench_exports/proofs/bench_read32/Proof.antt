@@ -1,42 +1,36 @@
--- `bench_exports::bench_read32` meets its contract: the tables are the true ones, so each word adds what it reads as.
+-- `bench_exports::bench_read32` meets its contract: each word adds what it reads as.
 -- Assumes nothing.
 use denote.Ref.{now}
-use mathlib.Core.Path.{_≡_, refl, ap, _∙_}
+use mathlib.Core.Path.{_≡_, refl}
 use Prim.Native.Nat.{_≤_, _-_}
 use native.Mathlib.Omega.{arith}
 use borrow.Author.Needs.{needs}
 use lib.Bits.{bitXor}
-use lib.ListN.{length, drop, getD}
-use Rattle.hec.proofs.LentReads.{lent32}
-use Rattle.bench_exports.specs.Sums.{valueOf, readSum}
+use lib.ListN.{length, drop}
+use Rattle.hec.specs.Reads.{found32}
+use Rattle.bench_exports.specs.Sums.{readSum}
 use Rattle.bench_exports.proofs.Laws.{more, all}
 use Rattle.bench_exports.proofs.bench_read32.Statement.{statement}
 use Rattle.bench_exports.proofs.bench_read32.Tie as tie
 
 abbrev Inv-loop : tie.InvT-loop
-Inv-loop words syndromes flips sum₀ i₀ sum i =
+Inv-loop words sum₀ i₀ sum i =
     (i ≤ length words) × (bitXor sum (readSum 32 (drop i words)) ≡ readSum 32 words)
 
 abbrev μ-loop : tie.MeasureT-loop
-μ-loop words syndromes flips sum₀ i₀ sum i = length words - i
-
-table-requires : tie.Need-table-requires Inv-loop μ-loop
-table-requires c κs = search needs
-
-table-requires-2 : tie.Need-table-requires-2 Inv-loop μ-loop
-table-requires-2 c κs = search needs
+μ-loop words sum₀ i₀ sum i = length words - i
 
 loop-holds : tie.Need-loop-holds Inv-loop μ-loop
 loop-holds c = (omega arith, refl)
 
-mul-read32-by : tie.Need-mul-read32-by Inv-loop μ-loop
-mul-read32-by c = search needs
+mul-read32 : tie.Need-mul-read32 Inv-loop μ-loop
+mul-read32 c = search needs
 
-shared-slice-read-read32-by : tie.Need-shared-slice-read-read32-by Inv-loop μ-loop
-shared-slice-read-read32-by c = search needs
+shared-slice-read-read32 : tie.Need-shared-slice-read-read32 Inv-loop μ-loop
+shared-slice-read-read32 c = search needs
 
-read32-by-requires : tie.Need-read32-by-requires Inv-loop μ-loop
-read32-by-requires c κs = search needs
+read32-requires : tie.Need-read32-requires Inv-loop μ-loop
+read32-requires c κs = search needs
 
 value32-requires : tie.Need-value32-requires Inv-loop μ-loop
 value32-requires c κs = search needs
@@ -49,16 +43,12 @@ loop-less c = search needs
 
 loop-again : tie.Need-loop-again Inv-loop μ-loop
 loop-again c =
-    let words = now (c .before .before .before .before .before .before .before .before .before .before .args .words) in
-    let l = c .before .before .before .before .before .before .loop in
-    let t1 = c .before .before .before .before .before .before .before .before in
-    let t2 = c .before .before .before .before .before .before .before in
-    let w = getD words (l .i) 0 in
-    let read = c .before .read32-by .ensures ∙ lent32 (t1 .table .result) (t2 .table2 .result) (t1 .table .ensures) (t2 .table2 .ensures) w (omega (arith, c .before .before .shared-slice-known2 .given (l .i))) in
-    (omega arith, more 32 words (l .i) (l .sum) (l .inv .1) _ (omega arith) (c .value32 .ensures ∙ ap valueOf read))
+    let l = c .before .before .before .before .loop in
+    let words = now (c .before .before .before .before .before .before .args .words) in
+    (omega arith, more 32 words (l .i) (l .sum) (l .inv .1) _ (found32 (c .before .read32 .result)) (omega arith) (omega (arith, c .before .before .shared-slice-known2 .given (l .i))) (omega arith) (c .before .read32 .ensures) (c .value32 .ensures))
 
 returns : tie.Need-returns Inv-loop μ-loop
-returns c = all 32 (now (c .before .before .before .before .before .args .words)) (c .before .loop .i) (c .before .loop .sum) (c .before .loop .inv .1) (omega arith)
+returns c = all 32 (now (c .before .before .before .args .words)) (c .before .loop .i) (c .before .loop .sum) (c .before .loop .inv .1) (omega arith)
 
 pub bench-read32-spec : {M : Type 1} → statement M
 bench-read32-spec =
@@ -66,12 +56,10 @@ bench-read32-spec =
     (tie.spec
     Inv-loop
     μ-loop
-    table-requires
-    table-requires-2
     loop-holds
-    mul-read32-by
-    shared-slice-read-read32-by
-    read32-by-requires
+    mul-read32
+    shared-slice-read-read32
+    read32-requires
     value32-requires
     add-i
     loop-less

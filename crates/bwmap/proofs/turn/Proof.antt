@@ -27,7 +27,7 @@ sub-more c =
 allocation-at-requires : tie.Need-allocation-at-requires
 allocation-at-requires c κs =
     let a = c .before .before .before .before .before .before .before .before .args in
-    (c .before .before .before .before .before .before .before .before .pre .0, omega (arith, sizes (a .own) (now (a .map)) (now (a .plan)) (a .w) _ _ (rw (c .before .before .before .next .given .1) at (c .before .before .before .before .before .next-planned .ensures))))
+    omega (arith, sizes (a .own) (now (a .map)) (now (a .plan)) (a .w) _ _ (rw (c .before .before .before .next .given .1) at (c .before .before .before .before .before .next-planned .ensures)))
 
 mul-place : tie.Need-mul-place
 mul-place c = search needs
@@ -41,31 +41,31 @@ write-series-requires : tie.Need-write-series-requires
 write-series-requires c κs =
     let a = c .before .before .before .before .before .before .before .before .before .before .before .args in
     let t = sizes (a .own) (now (a .map)) (now (a .plan)) (a .w) _ _ (rw (c .before .before .before .before .before .before .next .given .1) at (c .before .before .before .before .before .before .before .before .next-planned .ensures)) in
-    (c .before .before .before .before .before .before .before .before .before .before .before .pre .0, omega (arith, t), omega (arith, t, c .before .before .before .before .before .before .before .before .before .before .before .pre .2, c .before .before .before .before .before .before .before .before .before .before .before .pre .3 .room))
+    (omega (arith, t), omega (arith, t, c .before .before .before .before .before .before .before .before .before .before .before .pre .1, c .before .before .before .before .before .before .before .before .before .before .before .pre .2 .room))
 
-add-t17 : tie.Need-add-t17
-add-t17 c = search needs
+add-t15 : tie.Need-add-t15
+add-t15 c = search needs
 
-add-t20 : tie.Need-add-t20
-add-t20 c =
+add-t18 : tie.Need-add-t18
+add-t18 c =
     let a = c .before .before .before .before .before .before .before .before .before .before .before .before .before .before .before .args in
-    omega (arith, sizes (a .own) (now (a .map)) (now (a .plan)) (a .w) _ _ (rw (c .before .before .before .before .before .before .before .before .before .before .next .given .1) at (c .before .before .before .before .before .before .before .before .before .before .before .before .next-planned .ensures)), c .before .before .before .before .before .before .before .before .before .before .before .before .before .before .before .pre .3 .room)
+    omega (arith, sizes (a .own) (now (a .map)) (now (a .plan)) (a .w) _ _ (rw (c .before .before .before .before .before .before .before .before .before .before .next .given .1) at (c .before .before .before .before .before .before .before .before .before .before .before .before .next-planned .ensures)), c .before .before .before .before .before .before .before .before .before .before .before .before .before .before .before .pre .2 .room)
 
-add-t21 : tie.Need-add-t21
-add-t21 c =
+add-t19 : tie.Need-add-t19
+add-t19 c =
     let a = c .before .before .before .before .before .before .before .before .before .before .before .before .before .before .before .before .args in
     omega (arith, sizes (a .own) (now (a .map)) (now (a .plan)) (a .w) _ _ (rw (c .before .before .before .before .before .before .before .before .before .before .before .next .given .1) at (c .before .before .before .before .before .before .before .before .before .before .before .before .before .next-planned .ensures)))
 
 mark-requires : tie.Need-mark-requires
 mark-requires c κs = search needs
 
-add-t23 : tie.Need-add-t23
-add-t23 c =
+add-t21 : tie.Need-add-t21
+add-t21 c =
     let a = c .before .before .before .before .before .before .before .before .before .before .before .before .before .before .before .before .before .before .args in
-    omega (arith, sizes (a .own) (now (a .map)) (now (a .plan)) (a .w) _ _ (rw (c .before .before .before .before .before .before .before .before .before .before .before .before .before .next .given .1) at (c .before .before .before .before .before .before .before .before .before .before .before .before .before .before .before .next-planned .ensures)), c .before .before .before .before .before .before .before .before .before .before .before .before .before .before .before .before .before .before .pre .3 .sent, c .before .mark .ensures .1)
+    omega (arith, sizes (a .own) (now (a .map)) (now (a .plan)) (a .w) _ _ (rw (c .before .before .before .before .before .before .before .before .before .before .before .before .before .next .given .1) at (c .before .before .before .before .before .before .before .before .before .before .before .before .before .before .before .next-planned .ensures)), c .before .before .before .before .before .before .before .before .before .before .before .before .before .before .before .before .before .before .pre .2 .sent, c .before .mark .ensures .1)
 
-add-t24 : tie.Need-add-t24
-add-t24 c =
+add-t22 : tie.Need-add-t22
+add-t22 c =
     let a = c .before .before .before .before .before .before .before .before .before .before .before .before .before .before .before .before .before .before .before .args in
     omega (arith, sizes (a .own) (now (a .map)) (now (a .plan)) (a .w) _ _ (rw (c .before .before .before .before .before .before .before .before .before .before .before .before .before .before .next .given .1) at (c .before .before .before .before .before .before .before .before .before .before .before .before .before .before .before .before .next-planned .ensures)))
 
@@ -78,7 +78,7 @@ same-length c = search needs
 returns : tie.Need-returns
 returns c =
     let a = c .before .before .before .before .before .before .before .before .before .before .before .before .before .before .before .before .before .before .before .args in
-    let s = c .before .before .before .before .before .before .before .before .before .before .before .before .before .before .before .before .before .before .before .pre .3 in
+    let s = c .before .before .before .before .before .before .before .before .before .before .before .before .before .before .before .before .before .before .before .pre .2 in
     let d = rw (c .before .before .before .before .before .before .before .before .before .before .before .before .before .before .next .given .1) at (c .before .before .before .before .before .before .before .before .before .before .before .before .before .before .before .before .next-planned .ensures) in
     let t = sizes (a .own) (now (a .map)) (now (a .plan)) (a .w) _ _ d in
     (record { few = omega (arith, t); room = omega (arith, t, s .room); sent = omega (arith, s .sent, c .before .before .mark .ensures .1); low = omega (arith, t) }, t .3, t .4, plan-next (a .own) (now (a .map)) (now (a .plan)) (a .w) _ _ d (c .before .before .before .before .before .before .before .before .before .before .allocation-at .result) (c .before .before .before .before .before .before .before .before .before .before .allocation-at .ensures) _ _ (c .before .before .before .before .before .before .before .write-series .ensures) (c .before .before .mark .ensures .0))
@@ -86,9 +86,9 @@ returns c =
 returns-2 : tie.Need-returns-2
 returns-2 c =
     let a = c .before .before .before .before .before .args in
-    let s = c .before .before .before .before .before .pre .3 in
+    let s = c .before .before .before .before .before .pre .2 in
     let n = rw (c .enum-told .given .1) at (c .before .before .next-planned .ensures) in
-    (record { few = s .few; room = s .room; sent = s .sent; low = omega (arith, s .low) }, c .before .before .before .before .before .pre .1, omega arith, move-past (a .own) (now (a .map)) (now (a .plan)) (a .w) n)
+    (record { few = s .few; room = s .room; sent = s .sent; low = omega (arith, s .low) }, c .before .before .before .before .before .pre .0, omega arith, move-past (a .own) (now (a .map)) (now (a .plan)) (a .w) n)
 
 pub turn-spec : {M : Type 1} → statement M
 turn-spec =
@@ -102,12 +102,12 @@ turn-spec =
     mul-place
     add-write-series
     write-series-requires
-    add-t17
-    add-t20
-    add-t21
+    add-t15
+    add-t18
+    add-t19
     mark-requires
-    add-t23
-    add-t24
+    add-t21
+    add-t22
     enum-told
     same-length
     returns

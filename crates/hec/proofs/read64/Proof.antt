@@ -1,28 +1,25 @@
--- `hec::read64` meets its contract: the tables are the true ones.
+-- `hec::read64` meets its contract.
 -- Assumes nothing.
-use Rattle.hec.proofs.LentReads.{lent-reads64}
+use mathlib.Core.Path.{sym, _∙_}
+use Rattle.hec.proofs.Mending.{clean, mended}
 use borrow.Author.Needs.{needs}
 use Rattle.hec.proofs.read64.Statement.{statement}
 use Rattle.hec.proofs.read64.Tie as tie
 
-table-requires : tie.Need-table-requires
-table-requires c κs = search needs
-
-table-requires-2 : tie.Need-table-requires-2
-table-requires-2 c κs = search needs
-
-read64-by-requires : tie.Need-read64-by-requires
-read64-by-requires c κs = search needs
+syndrome-requires : tie.Need-syndrome-requires
+syndrome-requires c κs = search needs
 
 returns : tie.Need-returns
-returns c =
-    let a = c .before .before .before .before in
-    let b = c .before .before .before in
-    rw (c .read64-by .ensures)
-    (lent-reads64 (a .table .result) (b .table2 .result) (a .table .ensures) (b .table2 .ensures)
-    (a .before .args .word) (search needs))
+returns c = clean _ (search needs) (sym (c .before .syndrome .ensures) ∙ c .if1 .taken)
+
+flips-requires : tie.Need-flips-requires
+flips-requires c κs = search needs
+
+mend-requires : tie.Need-mend-requires
+mend-requires c κs = search needs
+
+returns-2 : tie.Need-returns-2
+returns-2 c = mended (c .before .before .before .before .args .word) _ _ _ (search needs) (c .before .before .before .syndrome .ensures) (c .before .flips .ensures) (c .mend .ensures)
 
 pub read64-spec : {M : Type 1} → statement M
-read64-spec =
-    tie.close
-    (tie.spec table-requires table-requires-2 read64-by-requires returns)
+read64-spec = tie.close (tie.spec syndrome-requires returns flips-requires mend-requires returns-2)

@@ -1,20 +1,75 @@
--- `replies::reply_all` meets its contract: the table that it names is the true one.
+-- `replies::reply_all` meets its contract.
 -- Assumes nothing.
+use mathlib.Core.Path.{_∙_, sym, ap}
+use Prim.Native.Nat.{ℕ, _<_, _^_}
+use denote.Ref.{now}
+use lib.ListN.{length}
+use Rattle.replies.specs.Replies.{repliesFrom}
+use Rattle.replies.proofs.Laws.{keyed-held, keyed-none, room-for}
 use borrow.Author.Needs.{needs}
 use Rattle.replies.proofs.reply_all.Statement.{statement}
 use Rattle.replies.proofs.reply_all.Tie as tie
 
+-- a slice's length fits a usize, known where few records stand before
+known : (c : tie.After-fewer) → length (now (c .before .before .args .replies)) < 2 ^ 64
+known c = search needs
+
+fewer-requires : tie.Need-fewer-requires
+fewer-requires c κs = search needs
+
+returns : tie.Need-returns
+returns c = rw (sym (c .before .fewer .ensures) ∙ c .if1 .taken)
+
 table-requires : tie.Need-table-requires
 table-requires c κs = search needs
 
-reply-all-by-requires : tie.Need-reply-all-by-requires
-reply-all-by-requires c κs = c .before .before .table .ensures
+default-key-requires : tie.Need-default-key-requires
+default-key-requires c κs = search needs
+
+prepared-requires : tie.Need-prepared-requires
+prepared-requires c κs = search needs
+
+write-each-requires : tie.Need-write-each-requires
+write-each-requires c κs =
+    let a = c .before .before .before .before .before .before .before .before .before .before .before .before .before .args in
+    let r = room-for (a .n) _ (length (now (a .replies))) (c .before .before .before .before .before .before .before .before .before .before .before .fewer .ensures) (known (c .before .before .before .before .before .before .before .before .before .before .before)) in
+    let ready = c .before .before .prepared .ensures in
+    (keyed-held _ _ _ (a .s .link .key) (c .before .before .before .before .before .before .before .before .before .table .ensures) (c .before .before .before .before .if2 .taken) (c .before .before .before .before .before .before .before .before .default-key .ensures) (ready .0 .made) (ready .0 .octets) (ready .1), r .0, r .1)
 
 same-length : tie.Need-same-length
 same-length c = search needs
 
-returns : tie.Need-returns
-returns c = c .before .before .reply-all-by .ensures
+returns-2 : tie.Need-returns-2
+returns-2 c =
+    let a = c .before .before .before .before .before .before .before .before .before .before .before .before .before .before .before .before .args in
+    c .before .before .write-each .ensures ∙ ap (λ (k : ℕ). repliesFrom (a .s) (a .delay) (now (a .replies)) 0 k) (c .before .before .before .before .before .before .before .before .before .before .before .before .before .before .fewer .ensures)
+
+write-each-requires-2 : tie.Need-write-each-requires-2
+write-each-requires-2 c κs =
+    let a = c .before .before .before .before .before .before .before .before .before .before .before .args in
+    let r = room-for (a .n) _ (length (now (a .replies))) (c .before .before .before .before .before .before .before .before .before .fewer .ensures) (known (c .before .before .before .before .before .before .before .before .before)) in
+    (keyed-none _ _ (a .s .link .key) (c .before .before .before .before .before .before .before .table .ensures) (c .before .before .if2 .left) (c .before .before .before .before .before .before .default-key .ensures), r .0, r .1)
+
+same-length-2 : tie.Need-same-length-2
+same-length-2 c = search needs
+
+returns-3 : tie.Need-returns-3
+returns-3 c =
+    let a = c .before .before .before .before .before .before .before .before .before .before .before .before .before .before .args in
+    c .before .before .write-each2 .ensures ∙ ap (λ (k : ℕ). repliesFrom (a .s) (a .delay) (now (a .replies)) 0 k) (c .before .before .before .before .before .before .before .before .before .before .before .before .fewer .ensures)
 
 pub reply-all-spec : {M : Type 1} → statement M
-reply-all-spec = tie.close (tie.spec table-requires reply-all-by-requires same-length returns)
+reply-all-spec =
+    tie.close
+    (tie.spec
+    fewer-requires
+    returns
+    table-requires
+    default-key-requires
+    prepared-requires
+    write-each-requires
+    same-length
+    returns-2
+    write-each-requires-2
+    same-length-2
+    returns-3)

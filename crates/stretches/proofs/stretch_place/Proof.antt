@@ -1,13 +1,11 @@
 -- `stretches::stretch_place` meets its contract: at each turn the search over what is still to come finds what the search over the whole finds.
 -- Assumes nothing.
 use denote.Ref.{now}
-use mathlib.Core.Path.{_≡_, refl, sym, ap, _∙_}
-use mathlib.Core.List.{List}
-use Prim.Native.Nat.{ℕ, _+_, _-_, _^_, _≤_, _<_}
+use mathlib.Core.Path.{_≡_, sym, ap, _∙_}
+use Prim.Native.Nat.{_-_, _^_, _<_}
 use native.Mathlib.Omega.{arith}
 use borrow.Author.Needs.{needs}
-use lib.ListN.{length, take, drop, length-map}
-use Rattle.framing.specs.Layouts.{payloadSize}
+use lib.ListN.{length, drop, length-map}
 use Rattle.ports.specs.Limits.{addedPorts}
 use Rattle.fragments.proofs.Effects.{effect-within}
 use Rattle.payload.specs.declared.frames.Next.the-variants.{Frame}
@@ -18,49 +16,43 @@ use Rattle.stretches.proofs.stretch_place.Statement.{statement}
 use Rattle.stretches.proofs.stretch_place.Tie as tie
 
 abbrev Inv-loop : tie.InvT-loop
-Inv-loop own payload k syndromes flips held₀ seek₀ at₀ held seek at =
+Inv-loop own payload k held₀ seek₀ at₀ held seek at =
     Seen own payload held₀ k held seek at × (length payload < 2 ^ 64)
 
 abbrev μ-loop : tie.MeasureT-loop
-μ-loop own payload k syndromes flips held₀ seek₀ at₀ held seek at = length payload - at
-
-table-requires : tie.Need-table-requires Inv-loop μ-loop
-table-requires c κs = search needs
-
-table-requires-2 : tie.Need-table-requires-2 Inv-loop μ-loop
-table-requires-2 c κs = search needs
+μ-loop own payload k held₀ seek₀ at₀ held seek at = length payload - at
 
 ids : (c : tie.Start Inv-loop μ-loop) → length (c .args .ports .ids) ≡ addedPorts
 ids c = simp length-map at (c .good .0 .1 .1 .0 .1 .0 .1)
 
 -- what the code finds next is what the parse finds
-next : (c : tie.After-next-ahead Inv-loop μ-loop) → c .next-ahead .result ≡ nextOf (drop (c .before .before .before .before .loop .at) (now (c .before .before .before .before .before .before .before .before .args .payload)))
-next c = c .next-ahead .ensures .0 ∙ ap nextOf (rest-part (now (c .before .before .before .before .before .before .before .before .args .payload)) (c .before .before .before .before .loop .at))
+next : (c : tie.After-next-ahead Inv-loop μ-loop) → c .next-ahead .result ≡ nextOf (drop (c .before .before .loop .at) (now (c .before .before .before .before .args .payload)))
+next c = c .next-ahead .ensures .0 ∙ ap nextOf (rest-part (now (c .before .before .before .before .args .payload)) (c .before .before .loop .at))
 
 -- the frame that was found, and its numbers
-framed : (c : tie.After-known-told Inv-loop μ-loop) → nextOf (drop (c .before .before .before .before .before .before .before .loop .at) (now (c .before .before .before .before .before .before .before .before .before .before .before .args .payload))) ≡ Frame (c .before .next .given .0 .0)
+framed : (c : tie.After-known-told Inv-loop μ-loop) → nextOf (drop (c .before .before .before .before .before .loop .at) (now (c .before .before .before .before .before .before .before .args .payload))) ≡ Frame (c .before .next .given .0 .0)
 framed c = sym (next (c .before .before .before)) ∙ c .before .next .given .1
 
-numbers : (c : tie.After-known-told Inv-loop μ-loop) → Numbers (now (c .before .before .before .before .before .before .before .before .before .before .before .args .payload)) (c .before .before .before .before .before .before .before .loop .at) (c .before .next .given .0 .0 .pli)
+numbers : (c : tie.After-known-told Inv-loop μ-loop) → Numbers (now (c .before .before .before .before .before .before .before .args .payload)) (c .before .before .before .before .before .loop .at) (c .before .next .given .0 .0 .pli)
 numbers c =
-    let l = c .before .before .before .before .before .before .before in
+    let l = c .before .before .before .before .before in
     let i = rw (c .before .next .given .1) at (c .before .before .before .next-ahead .ensures .1) in
-    numbers-of (now (c .before .before .before .before .before .before .before .before .before .before .before .args .payload)) (l .loop .at) (c .before .next .given .0 .0 .pli) (i .0) (i .1) (l .loop .inv .0 .inside) (l .loop .inv .1)
+    numbers-of (now (c .before .before .before .before .before .before .before .args .payload)) (l .loop .at) (c .before .next .given .0 .0 .pli) (i .0) (i .1) (l .loop .inv .0 .inside) (l .loop .inv .1)
 
 loop-holds : tie.Need-loop-holds Inv-loop μ-loop
-loop-holds c = (seen-start (c .before .before .before .args .own) (now (c .before .before .before .args .payload)) (c .before .before .before .args .ports) (c .before .before .before .args .k) (ids (c .before .before .before)), omega arith)
+loop-holds c = (seen-start (c .before .args .own) (now (c .before .args .payload)) (c .before .args .ports) (c .before .args .k) (ids (c .before)), omega arith)
 
 sub-next-ahead : tie.Need-sub-next-ahead Inv-loop μ-loop
-sub-next-ahead c = omega (arith, c .before .before .loop .inv .0 .inside)
+sub-next-ahead c = omega (arith, c .loop .inv .0 .inside)
 
 part-next-ahead-start : tie.Need-part-next-ahead-start Inv-loop μ-loop
-part-next-ahead-start c = omega (arith, c .before .before .loop .inv .0 .inside)
+part-next-ahead-start c = omega (arith, c .loop .inv .0 .inside)
 
 part-next-ahead-end : tie.Need-part-next-ahead-end Inv-loop μ-loop
-part-next-ahead-end c = omega (arith, c .before .before .loop .inv .0 .inside)
+part-next-ahead-end c = omega (arith, c .loop .inv .0 .inside)
 
 next-ahead-requires : tie.Need-next-ahead-requires Inv-loop μ-loop
-next-ahead-requires c κs = (c .before .before .before .before .before .table .ensures, c .before .before .before .before .table2 .ensures)
+next-ahead-requires c κs = search needs
 
 enum-told : tie.Need-enum-told Inv-loop μ-loop
 enum-told c = search needs
@@ -70,8 +62,8 @@ settle-requires c κs = search needs
 
 returns : tie.Need-returns Inv-loop μ-loop
 returns c =
-    let l = c .before .before .before .before .before .before .before in
-    let a = c .before .before .before .before .before .before .before .before .before .before .before .args in
+    let l = c .before .before .before .before .before in
+    let a = c .before .before .before .before .before .before .before .args in
     let pay = now (a .payload) in
     seen-done (a .own) pay (a .ports) (a .k) (l .loop .held) (l .loop .seek) (l .loop .at) (l .loop .inv .0) (sym (next (c .before .before .before)) ∙ c .before .enum-told .given .1) _ (c .settle .ensures)
 
@@ -83,8 +75,8 @@ settle-requires-2 c κs = search needs
 
 returns-2 : tie.Need-returns-2 Inv-loop μ-loop
 returns-2 c =
-    let l = c .before .before .before .before .before .before .before in
-    let a = c .before .before .before .before .before .before .before .before .before .before .before .args in
+    let l = c .before .before .before .before .before in
+    let a = c .before .before .before .before .before .before .before .args in
     let pay = now (a .payload) in
     seen-lost (a .own) pay (a .ports) (a .k) (l .loop .held) (l .loop .seek) (l .loop .at) (l .loop .inv .0) (sym (next (c .before .before .before)) ∙ c .before .enum-told2 .given .1) _ (c .settle2 .ensures)
 
@@ -105,9 +97,9 @@ seek-on-requires c κs = search needs
 
 moved-requires : tie.Need-moved-requires Inv-loop μ-loop
 moved-requires c κs =
-    let l = c .before .before .before .before .before .before .before .before .before .before .before in
+    let l = c .before .before .before .before .before .before .before .before .before in
     let x = c .before .before .before .before .before .next .given .0 .0 in
-    rw (c .before .effect-of .ensures) (effect-within (l .loop .held) (c .before .before .before .before .before .before .before .before .before .before .before .before .before .before .before .args .own) (x .port) (x .last) (x .pli) (l .loop .inv .0 .ids))
+    rw (c .before .effect-of .ensures) (effect-within (l .loop .held) (c .before .before .before .before .before .before .before .before .before .before .before .args .own) (x .port) (x .last) (x .pli) (l .loop .inv .0 .ids))
 
 payload-size-requires : tie.Need-payload-size-requires Inv-loop μ-loop
 payload-size-requires c κs = search needs
@@ -120,8 +112,8 @@ loop-less c = omega (arith, numbers (c .before .before .before .before .before .
 
 loop-again : tie.Need-loop-again Inv-loop μ-loop
 loop-again c =
-    let l = c .before .before .before .before .before .before .before .before .before .before .before .before .before in
-    let a = c .before .before .before .before .before .before .before .before .before .before .before .before .before .before .before .before .before .args in
+    let l = c .before .before .before .before .before .before .before .before .before .before .before in
+    let a = c .before .before .before .before .before .before .before .before .before .before .before .before .before .args in
     let pay = now (a .payload) in (
       rw (c .payload-size .ensures)
           (seen-on (a .own) pay (a .ports) (a .k) (l .loop .held) (l .loop .seek) (l .loop .at) (l .loop .inv .0) (c .before .before .before .before .before .before .before .next .given .0 .0) (framed (c .before .before .before .before .before .before)) _ (c .before .before .before .effect-of .ensures) _ (c .before .before .seek-on .ensures) _ (c .before .moved .ensures)),
@@ -134,8 +126,6 @@ stretch-place-spec =
     (tie.spec
     Inv-loop
     μ-loop
-    table-requires
-    table-requires-2
     loop-holds
     sub-next-ahead
     part-next-ahead-start

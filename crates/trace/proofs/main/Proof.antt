@@ -10,7 +10,7 @@ use Rattle.trace.proofs.main.Tie as tie
 
 -- the arrays are as long as they were made, and less than a record is kept
 abbrev Inv-loop : tie.InvT-loop
-Inv-loop syndromes flips mix input₀ memory₀ plan₀ replies₀ deliveries₀ text₀ run₀ kept₀ turns₀ input memory plan replies deliveries text run kept turns =
+Inv-loop input₀ memory₀ plan₀ replies₀ deliveries₀ text₀ run₀ kept₀ turns₀ input memory plan replies deliveries text run kept turns =
     (kept ≤ 1023)
     × (65536 ≡ length input)
     × (34816 ≡ length memory)
@@ -20,22 +20,13 @@ Inv-loop syndromes flips mix input₀ memory₀ plan₀ replies₀ deliveries₀
     × (8192 ≡ length text)
 
 abbrev μ-loop : tie.MeasureT-loop
-μ-loop syndromes flips mix input₀ memory₀ plan₀ replies₀ deliveries₀ text₀ run₀ kept₀ turns₀ input memory plan replies deliveries text run kept turns = turns
+μ-loop input₀ memory₀ plan₀ replies₀ deliveries₀ text₀ run₀ kept₀ turns₀ input memory plan replies deliveries text run kept turns = turns
 
 -- a read fills no more than the input
 filled-within : (c : tie.After-filled Inv-loop μ-loop) → (c .filled .given .0 .0 ≤ length (c .before .before .before .read-on .last .0)) × (c .filled .given .0 .0 ≤ 65536)
 filled-within c =
     let w = rw (c .filled .given .1) at (c .before .before .before .read-on .ensures) in
     (omega (arith, w, c .before .before .before .read-on .kept .0), omega (arith, w, c .before .before .before .before .before .before .loop .inv .1))
-
-table-requires : tie.Need-table-requires Inv-loop μ-loop
-table-requires c κs = tt
-
-table-requires-2 : tie.Need-table-requires-2 Inv-loop μ-loop
-table-requires-2 c κs = tt
-
-table-requires-3 : tie.Need-table-requires-3 Inv-loop μ-loop
-table-requires-3 c κs = tt
 
 start-requires : tie.Need-start-requires Inv-loop μ-loop
 start-requires c κs = tt
@@ -56,33 +47,33 @@ enum-known-filled : tie.Need-enum-known-filled Inv-loop μ-loop
 enum-known-filled c = search needs
 
 slice-aggregate-turn : tie.Need-slice-aggregate-turn Inv-loop μ-loop
-slice-aggregate-turn c = c .before .before .before .before .before .before .before .before .before .before .before .loop .inv .1 ∙ sym (c .before .before .before .before .before .before .before .before .read-on .kept .0)
+slice-aggregate-turn c = c .before .before .before .before .before .before .before .before .loop .inv .1 ∙ sym (c .before .before .before .before .before .read-on .kept .0)
 
 slice-aggregate-turn-2 : tie.Need-slice-aggregate-turn-2 Inv-loop μ-loop
-slice-aggregate-turn-2 c = c .before .before .before .before .before .before .before .before .before .before .before .before .loop .inv .2
+slice-aggregate-turn-2 c = c .before .before .before .before .before .before .before .before .before .loop .inv .2
 
 slice-aggregate-turn-3 : tie.Need-slice-aggregate-turn-3 Inv-loop μ-loop
-slice-aggregate-turn-3 c = c .before .before .before .before .before .before .before .before .before .before .before .before .before .loop .inv .3
+slice-aggregate-turn-3 c = c .before .before .before .before .before .before .before .before .before .before .loop .inv .3
 
 slice-aggregate-turn-4 : tie.Need-slice-aggregate-turn-4 Inv-loop μ-loop
-slice-aggregate-turn-4 c = c .before .before .before .before .before .before .before .before .before .before .before .before .before .before .loop .inv .4
+slice-aggregate-turn-4 c = c .before .before .before .before .before .before .before .before .before .before .before .loop .inv .4
 
 slice-aggregate-turn-5 : tie.Need-slice-aggregate-turn-5 Inv-loop μ-loop
-slice-aggregate-turn-5 c = c .before .before .before .before .before .before .before .before .before .before .before .before .before .before .before .loop .inv .5
+slice-aggregate-turn-5 c = c .before .before .before .before .before .before .before .before .before .before .before .before .loop .inv .5
 
 slice-aggregate-turn-6 : tie.Need-slice-aggregate-turn-6 Inv-loop μ-loop
-slice-aggregate-turn-6 c = c .before .before .before .before .before .before .before .before .before .before .before .before .before .before .before .before .loop .inv .6
+slice-aggregate-turn-6 c = c .before .before .before .before .before .before .before .before .before .before .before .before .before .loop .inv .6
 
 turn-requires : tie.Need-turn-requires Inv-loop μ-loop
 turn-requires c κs =
-    let h = filled-within (c .before .before .before .before .before .before .before .before .before .before) in
-    (record { octets = c .before .before .before .before .before .before .before .before .before .before .before .before .before .before .before .before .before .before .before .before .table .ensures; repairs = c .before .before .before .before .before .before .before .before .before .before .before .before .before .before .before .before .before .before .before .table2 .ensures }, c .before .before .before .before .before .before .before .before .before .before .before .before .before .before .before .before .before .before .table3 .ensures, h .0, omega (arith, h .1, c .before .before .before .before .before .before .before .before .before .before .before .before .before .before .before .before .loop .inv .6))
+    let h = filled-within (c .before .before .before .before .before .before .before) in
+    (h .0, omega (arith, h .1, c .before .before .before .before .before .before .before .before .before .before .before .before .before .loop .inv .6))
 
 slice-aggregate-write-out : tie.Need-slice-aggregate-write-out Inv-loop μ-loop
-slice-aggregate-write-out c = c .before .before .before .before .before .before .before .before .before .before .before .before .before .before .before .before .before .before .before .before .before .before .before .before .loop .inv .6 ∙ sym (c .before .before .before .before .before .before .before .turn .kept .1 .1 .1 .1 .1 .1 .1 .1 .1 .1 .0)
+slice-aggregate-write-out c = c .before .before .before .before .before .before .before .before .before .before .before .before .before .before .before .before .before .before .before .before .before .loop .inv .6 ∙ sym (c .before .before .before .before .before .before .before .turn .kept .1 .1 .1 .1 .1 .1 .1 .0)
 
 write-out-requires : tie.Need-write-out-requires Inv-loop μ-loop
-write-out-requires c κs = omega (arith, c .before .before .before .before .before .before .before .turn .ensures .2, filled-within (c .before .before .before .before .before .before .before .before .before .before .before .before .before .before .before .before .before .before) .1, c .before .before .before .before .before .before .before .before .before .before .before .before .before .before .before .before .before .before .before .before .before .before .before .before .loop .inv .6, c .before .before .before .before .before .before .before .turn .kept .1 .1 .1 .1 .1 .1 .1 .1 .1 .1 .0)
+write-out-requires c κs = omega (arith, c .before .before .before .before .before .before .before .turn .ensures .2, filled-within (c .before .before .before .before .before .before .before .before .before .before .before .before .before .before .before) .1, c .before .before .before .before .before .before .before .before .before .before .before .before .before .before .before .before .before .before .before .before .before .loop .inv .6, c .before .before .before .before .before .before .before .turn .kept .1 .1 .1 .1 .1 .1 .1 .0)
 
 returns : tie.Need-returns Inv-loop μ-loop
 returns c = tt
@@ -91,18 +82,18 @@ returns-2 : tie.Need-returns-2 Inv-loop μ-loop
 returns-2 c = tt
 
 loop-less : tie.Need-loop-less Inv-loop μ-loop
-loop-less c = omega (arith, c .before .before .before .before .before .before .before .before .before .before .before .before .before .before .before .before .before .before .before .before .before .before .before .before .before .before .before .loop-test .taken)
+loop-less c = omega (arith, c .before .before .before .before .before .before .before .before .before .before .before .before .before .before .before .before .before .before .before .before .before .before .before .before .loop-test .taken)
 
 loop-again : tie.Need-loop-again Inv-loop μ-loop
 loop-again c =
     let k = c .before .before .before .before .before .before .before .before .before .before .before .turn .kept in (
       c .before .before .before .before .before .before .before .before .before .before .before .turn .ensures .1,
-      c .before .before .before .before .before .before .before .before .before .before .before .before .before .before .before .before .before .before .before .before .before .before .before .before .before .before .before .before .loop .inv .1 ∙ sym (c .before .before .before .before .before .before .before .before .before .before .before .before .before .before .before .before .before .before .before .before .before .before .before .before .before .read-on .kept .0) ∙ sym (k .1 .1 .1 .1 .0),
-      c .before .before .before .before .before .before .before .before .before .before .before .before .before .before .before .before .before .before .before .before .before .before .before .before .before .before .before .before .loop .inv .2 ∙ sym (k .1 .1 .1 .1 .1 .1 .0),
-      c .before .before .before .before .before .before .before .before .before .before .before .before .before .before .before .before .before .before .before .before .before .before .before .before .before .before .before .before .loop .inv .3 ∙ sym (k .1 .1 .1 .1 .1 .1 .1 .0),
-      c .before .before .before .before .before .before .before .before .before .before .before .before .before .before .before .before .before .before .before .before .before .before .before .before .before .before .before .before .loop .inv .4 ∙ sym (k .1 .1 .1 .1 .1 .1 .1 .1 .0),
-      c .before .before .before .before .before .before .before .before .before .before .before .before .before .before .before .before .before .before .before .before .before .before .before .before .before .before .before .before .loop .inv .5 ∙ sym (k .1 .1 .1 .1 .1 .1 .1 .1 .1 .0),
-      c .before .before .before .before .before .before .before .before .before .before .before .before .before .before .before .before .before .before .before .before .before .before .before .before .before .before .before .before .loop .inv .6 ∙ sym (k .1 .1 .1 .1 .1 .1 .1 .1 .1 .1 .0),
+      c .before .before .before .before .before .before .before .before .before .before .before .before .before .before .before .before .before .before .before .before .before .before .before .before .before .loop .inv .1 ∙ sym (c .before .before .before .before .before .before .before .before .before .before .before .before .before .before .before .before .before .before .before .before .before .before .read-on .kept .0) ∙ sym (k .1 .0),
+      c .before .before .before .before .before .before .before .before .before .before .before .before .before .before .before .before .before .before .before .before .before .before .before .before .before .loop .inv .2 ∙ sym (k .1 .1 .1 .0),
+      c .before .before .before .before .before .before .before .before .before .before .before .before .before .before .before .before .before .before .before .before .before .before .before .before .before .loop .inv .3 ∙ sym (k .1 .1 .1 .1 .0),
+      c .before .before .before .before .before .before .before .before .before .before .before .before .before .before .before .before .before .before .before .before .before .before .before .before .before .loop .inv .4 ∙ sym (k .1 .1 .1 .1 .1 .0),
+      c .before .before .before .before .before .before .before .before .before .before .before .before .before .before .before .before .before .before .before .before .before .before .before .before .before .loop .inv .5 ∙ sym (k .1 .1 .1 .1 .1 .1 .0),
+      c .before .before .before .before .before .before .before .before .before .before .before .before .before .before .before .before .before .before .before .before .before .before .before .before .before .loop .inv .6 ∙ sym (k .1 .1 .1 .1 .1 .1 .1 .0),
     )
 
 enum-told : tie.Need-enum-told Inv-loop μ-loop
@@ -132,9 +123,6 @@ main-spec =
     (tie.spec
     Inv-loop
     μ-loop
-    table-requires
-    table-requires-2
-    table-requires-3
     start-requires
     loop-holds
     sub-turns

@@ -1,7 +1,6 @@
 -- `bwmap::records::allocation_at` meets its contract.
 -- Assumes nothing.
 use mathlib.Core.Path.{_∙_, sym, ap}
-use native.Mathlib.Omega.{arith}
 use denote.Ref.{now}
 use Rattle.xgtc.specs.Reads.{foundAllocation}
 use Rattle.xgtc.specs.declared.allocation.AllocationRead.{AllocationRead}
@@ -14,17 +13,17 @@ use Rattle.bwmap.proofs.records.allocation_at.Tie as tie
 mul-at : tie.Need-mul-at
 mul-at c = search needs
 
-sub-read-allocation-by : tie.Need-sub-read-allocation-by
-sub-read-allocation-by c = search needs
+sub-read-entry : tie.Need-sub-read-entry
+sub-read-entry c = search needs
 
-part-read-allocation-by-start : tie.Need-part-read-allocation-by-start
-part-read-allocation-by-start c = search needs
+part-read-entry-start : tie.Need-part-read-entry-start
+part-read-entry-start c = search needs
 
-part-read-allocation-by-end : tie.Need-part-read-allocation-by-end
-part-read-allocation-by-end c = search needs
+part-read-entry-end : tie.Need-part-read-entry-end
+part-read-entry-end c = search needs
 
-read-allocation-by-requires : tie.Need-read-allocation-by-requires
-read-allocation-by-requires c κs = search needs
+read-entry-requires : tie.Need-read-entry-requires
+read-entry-requires c κs = search needs
 
 enum-known-a : tie.Need-enum-known-a
 enum-known-a c = search needs
@@ -44,30 +43,30 @@ no-allocation-requires-2 c κs = search needs
 returns : tie.Need-returns
 unfolding allocationAt
 returns c =
-    let s = c .before .before .before .before .before .before in
-    sym (ap (λ (x : AllocationRead). fieldsOf (foundAllocation x)) (c .before .a .given .1)) ∙ ap fieldsOf (c .before .before .before .read-allocation-by .ensures ∙ read-entry (now (s .args .syndromes)) (now (s .args .flips)) (now (s .args .map)) (s .pre .0) (λ k. omega (arith, c .before .before .before .before .before .shared-slice-known .given k)) (s .args .i))
+    let a = c .before .before .before .before .before .before .args in
+    sym (ap (λ (x : AllocationRead). fieldsOf (foundAllocation x)) (c .before .a .given .1)) ∙ ap fieldsOf (c .before .before .before .read-entry .ensures ∙ read-entry (now (a .map)) (a .i))
 
 returns-2 : tie.Need-returns-2
 unfolding allocationAt
 returns-2 c =
-    let s = c .before .before .before .before .before .before in
-    c .no-allocation .ensures ∙ sym (ap (λ (x : AllocationRead). fieldsOf (foundAllocation x)) (c .before .enum-told .given .1)) ∙ ap fieldsOf (c .before .before .before .read-allocation-by .ensures ∙ read-entry (now (s .args .syndromes)) (now (s .args .flips)) (now (s .args .map)) (s .pre .0) (λ k. omega (arith, c .before .before .before .before .before .shared-slice-known .given k)) (s .args .i))
+    let a = c .before .before .before .before .before .before .args in
+    c .no-allocation .ensures ∙ sym (ap (λ (x : AllocationRead). fieldsOf (foundAllocation x)) (c .before .enum-told .given .1)) ∙ ap fieldsOf (c .before .before .before .read-entry .ensures ∙ read-entry (now (a .map)) (a .i))
 
 returns-3 : tie.Need-returns-3
 unfolding allocationAt
 returns-3 c =
-    let s = c .before .before .before .before .before .before in
-    c .no-allocation2 .ensures ∙ sym (ap (λ (x : AllocationRead). fieldsOf (foundAllocation x)) (c .before .enum-told2 .given .1)) ∙ ap fieldsOf (c .before .before .before .read-allocation-by .ensures ∙ read-entry (now (s .args .syndromes)) (now (s .args .flips)) (now (s .args .map)) (s .pre .0) (λ k. omega (arith, c .before .before .before .before .before .shared-slice-known .given k)) (s .args .i))
+    let a = c .before .before .before .before .before .before .args in
+    c .no-allocation2 .ensures ∙ sym (ap (λ (x : AllocationRead). fieldsOf (foundAllocation x)) (c .before .enum-told2 .given .1)) ∙ ap fieldsOf (c .before .before .before .read-entry .ensures ∙ read-entry (now (a .map)) (a .i))
 
 pub allocation-at-spec : {M : Type 1} → statement M
 allocation-at-spec =
     tie.close
     (tie.spec
     mul-at
-    sub-read-allocation-by
-    part-read-allocation-by-start
-    part-read-allocation-by-end
-    read-allocation-by-requires
+    sub-read-entry
+    part-read-entry-start
+    part-read-entry-end
+    read-entry-requires
     enum-known-a
     enum-told
     no-allocation-requires

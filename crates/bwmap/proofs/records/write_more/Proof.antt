@@ -15,10 +15,10 @@ use Rattle.bwmap.proofs.records.write_more.Statement.{statement}
 use Rattle.bwmap.proofs.records.write_more.Tie as tie
 
 abbrev Inv-loop : tie.InvT-loop
-Inv-loop syndromes flips map from count h plan₀ at k₀ plan k = (k ≤ count) × (length plan ≡ length plan₀) × (sets plan (at + 4 * k) (moreNumbers h (allocationsFrom map (from + k) (count - k))) ≡ sets plan₀ at (moreNumbers h (allocationsFrom map from count)))
+Inv-loop map from count h plan₀ at k₀ plan k = (k ≤ count) × (length plan ≡ length plan₀) × (sets plan (at + 4 * k) (moreNumbers h (allocationsFrom map (from + k) (count - k))) ≡ sets plan₀ at (moreNumbers h (allocationsFrom map from count)))
 
 abbrev μ-loop : tie.MeasureT-loop
-μ-loop syndromes flips map from count h plan₀ at k₀ plan k = count - k
+μ-loop map from count h plan₀ at k₀ plan k = count - k
 
 loop-holds : tie.Need-loop-holds Inv-loop μ-loop
 loop-holds c = (search needs, refl, rw (add-zero (c .before .before .args .at), add-zero (c .before .before .args .from), sub-zero))
@@ -39,7 +39,7 @@ more-flags-requires : tie.Need-more-flags-requires Inv-loop μ-loop
 more-flags-requires c κs = search needs
 
 put-requires : tie.Need-put-requires Inv-loop μ-loop
-put-requires c κs = omega (arith, c .before .before .before .before .loop .inv .1, c .before .before .before .before .before .before .before .pre .2, c .before .before .before .loop-test .taken)
+put-requires c κs = omega (arith, c .before .before .before .before .loop .inv .1, c .before .before .before .before .before .before .before .pre .1, c .before .before .before .loop-test .taken)
 
 add-k : tie.Need-add-k Inv-loop μ-loop
 add-k c = search needs

@@ -14,16 +14,16 @@ use Rattle.bwmap.proofs.search.next_planned.Statement.{statement}
 use Rattle.bwmap.proofs.search.next_planned.Tie as tie
 
 abbrev Inv-loop : tie.InvT-loop
-Inv-loop syndromes flips map own from end bursts n s₀ i₀ s i = (from ≤ i) × (i ≤ entryCount map) × Modest s × Stage own map end bursts from i s
+Inv-loop map own from end bursts n s₀ i₀ s i = (from ≤ i) × (i ≤ entryCount map) × Modest s × Stage own map end bursts from i s
 
 abbrev μ-loop : tie.MeasureT-loop
-μ-loop syndromes flips map own from end bursts n s₀ i₀ s i = n - i
+μ-loop map own from end bursts n s₀ i₀ s i = n - i
 
 closed-requires : tie.Need-closed-requires Inv-loop μ-loop
 closed-requires c κs = search needs
 
 loop-holds : tie.Need-loop-holds Inv-loop μ-loop
-loop-holds c = (omega arith, c .before .before .pre .1, closed-modest _ (c .closed .ensures), between (c .closed .ensures) refl)
+loop-holds c = (omega arith, c .before .before .pre, closed-modest _ (c .closed .ensures), between (c .closed .ensures) refl)
 
 read-at-requires : tie.Need-read-at-requires Inv-loop μ-loop
 read-at-requires c κs = search needs

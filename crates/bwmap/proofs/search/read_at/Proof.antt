@@ -1,7 +1,6 @@
 -- `bwmap::search::read_at` meets its contract.
 -- Assumes nothing.
 use mathlib.Core.Path.{_∙_, ap}
-use native.Mathlib.Omega.{arith}
 use denote.Ref.{now}
 use Rattle.entries.specs.Standings.{standing}
 use Rattle.bwmap.proofs.Reading.{read-entry}
@@ -12,30 +11,30 @@ use Rattle.bwmap.proofs.search.read_at.Tie as tie
 mul-at : tie.Need-mul-at
 mul-at c = search needs
 
-sub-standing-by : tie.Need-sub-standing-by
-sub-standing-by c = search needs
+sub-standing-ahead : tie.Need-sub-standing-ahead
+sub-standing-ahead c = search needs
 
-part-standing-by-start : tie.Need-part-standing-by-start
-part-standing-by-start c = search needs
+part-standing-ahead-start : tie.Need-part-standing-ahead-start
+part-standing-ahead-start c = search needs
 
-part-standing-by-end : tie.Need-part-standing-by-end
-part-standing-by-end c = search needs
+part-standing-ahead-end : tie.Need-part-standing-ahead-end
+part-standing-ahead-end c = search needs
 
-standing-by-requires : tie.Need-standing-by-requires
-standing-by-requires c κs = search needs
+standing-ahead-requires : tie.Need-standing-ahead-requires
+standing-ahead-requires c κs = search needs
 
 returns : tie.Need-returns
 returns c =
     let a = c .before .before .before .args in
-    c .standing-by .ensures ∙ ap (standing (a .own)) (read-entry (now (a .syndromes)) (now (a .flips)) (now (a .map)) (c .before .before .before .pre .0) (λ k. omega (arith, c .before .before .shared-slice-known .given k)) (a .i))
+    c .standing-ahead .ensures ∙ ap (standing (a .own)) (read-entry (now (a .map)) (a .i))
 
 pub read-at-spec : {M : Type 1} → statement M
 read-at-spec =
     tie.close
     (tie.spec
     mul-at
-    sub-standing-by
-    part-standing-by-start
-    part-standing-by-end
-    standing-by-requires
+    sub-standing-ahead
+    part-standing-ahead-start
+    part-standing-ahead-end
+    standing-ahead-requires
     returns)

@@ -18,8 +18,8 @@ returns c =
 word64-requires : tie.Need-word64-requires
 word64-requires c κs = search needs
 
-read64-requires : tie.Need-read64-requires
-read64-requires c κs = search needs
+read64-by-octets-requires : tie.Need-read64-by-octets-requires
+read64-by-octets-requires c κs = search needs
 
 found-requires : tie.Need-found-requires
 found-requires c κs = search needs
@@ -27,8 +27,8 @@ found-requires c κs = search needs
 returns-2 : tie.Need-returns-2
 returns-2 c =
     let a = c .before .before .before .before .before .args in
-    read-found (reading 64) 8 xgemOf (now (a .s)) _ (found64 (c .before .read64 .result)) _ (c .before .before .before .if1 .left) (c .before .before .word64 .ensures) (is-reading 64 _ (omega arith) (search needs) (found64 (c .before .read64 .result)) (c .before .read64 .ensures)) (c .found .ensures)
+    read-found (reading 64) 8 xgemOf (now (a .s)) _ (found64 (c .before .read64-by-octets .result)) _ (c .before .before .before .if1 .left) (c .before .before .word64 .ensures) (is-reading 64 _ (omega arith) (search needs) (found64 (c .before .read64-by-octets .result)) (c .before .read64-by-octets .ensures)) (c .found .ensures)
 
 pub read-xgem-spec : {M : Type 1} → statement M
 read-xgem-spec =
-    tie.close (tie.spec returns word64-requires read64-requires found-requires returns-2)
+    tie.close (tie.spec returns word64-requires read64-by-octets-requires found-requires returns-2)

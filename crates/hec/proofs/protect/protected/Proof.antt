@@ -1,7 +1,7 @@
 -- `hec::protect::protected` meets its contract: the remainder has twelve bits, so it goes behind the data bits.
 -- Assumes nothing.
-use Prim.Native.Nat.{ℕ, _+_, _*_, _<_}
-use mathlib.Core.Path.{_≡_, ap, _∙_}
+use Prim.Native.Nat.{ℕ, _+_, _*_}
+use mathlib.Core.Path.{ap, _∙_}
 use native.Mathlib.Omega.{arith}
 use Rattle.hec.specs.Writes.{closed}
 use Rattle.bch.proofs.Range.{remainder-lt}

@@ -1,12 +1,11 @@
 -- `hec::protect::remainder_of` meets its contract: the sum is that over the bits that were passed, and left holds the others.
 -- Assumes nothing.
-use Prim.Native.Nat.{ℕ, _≤_, _<_, _-_, _*_, _%_}
-use mathlib.Core.Path.{_≡_, refl, ap, _∙_}
+use Prim.Native.Nat.{ℕ, _≤_, _-_, _*_, _%_}
+use mathlib.Core.Path.{_≡_, refl, ap}
 use native.Mathlib.Omega.{arith}
 use borrow.Author.Needs.{needs}
 use lib.Bits.{bitXor}
 use Rattle.bch.specs.Code.{place, remainderFrom, remainder}
-use Rattle.bch.specs.Tables.{Remainders}
 use Rattle.bch.proofs.Xor.{bit}
 use Rattle.bch.proofs.Range.{place-lt, bit-times-lt}
 use Rattle.bch.proofs.Linear.{sum-more, sum-done}

@@ -1,4 +1,4 @@
--- `payload::frames::next_frame` meets its contract: the tables are the true ones, and a word is looked at only where there is one.
+-- `payload::frames::next_frame` meets its contract: a word is looked at only where there is one.
 -- Assumes nothing.
 use denote.Ref.{now}
 use mathlib.Core.Path.{_≡_, sym, ap, _∙_}
@@ -18,18 +18,16 @@ use Rattle.payload.proofs.frames.next_frame.Tie as tie
 word-ahead-requires : tie.Need-word-ahead-requires
 word-ahead-requires c κs = search needs
 
-read64-by-requires : tie.Need-read64-by-requires
-read64-by-requires c κs = search needs
+read64-by-octets-requires : tie.Need-read64-by-octets-requires
+read64-by-octets-requires c κs = search needs
 
 returns : tie.Need-returns
 returns c = (done-ahead (now (c .before .before .before .before .args .left)) (c .if1 .taken), tt)
 
 -- where there is a word, what is found by it is what stands there
-read : (c : tie.Else1) → let s = now (c .before .before .before .before .args .left) in (x : Found XgemHeader) → x ≡ taken xgemOf (found64 (c .before .read64-by .result)) → x ≡ readXgem s
+read : (c : tie.Else1) → let s = now (c .before .before .before .before .args .left) in (x : Found XgemHeader) → x ≡ taken xgemOf (found64 (c .before .read64-by-octets .result)) → x ≡ readXgem s
 read c x e =
-    let b = c .before .before .before .before in
-    found-ahead (now (b .args .syndromes)) (now (b .args .flips)) (b .pre .0) (b .pre .1) (now (b .args .left)) (λ i. omega (arith, c .before .before .before .shared-slice-known .given i))
-    (c .before .before .word-ahead .result) (found64 (c .before .read64-by .result)) x (c .if1 .left) (c .before .before .word-ahead .ensures) (c .before .read64-by .ensures) e
+    found-ahead (now (c .before .before .before .before .args .left)) (c .before .before .word-ahead .result) (found64 (c .before .read64-by-octets .result)) x (c .if1 .left) (c .before .before .word-ahead .ensures) (search needs) (c .before .read64-by-octets .ensures) e
 
 -- the fields of a word that was read
 fielded : (c : tie.After-of) → fields (c .of .result) ≡ readXgem (now (c .before .before .before .before .before .before .before .before .args .left))
@@ -72,7 +70,7 @@ next-frame-spec =
     tie.close
     (tie.spec
     word-ahead-requires
-    read64-by-requires
+    read64-by-octets-requires
     returns
     enum-told
     enum-known-read

@@ -1,24 +1,22 @@
 -- `payload::walk::walk_frames` meets its contract: at each turn what is still to come leaves what the whole payload leaves.
 -- Assumes nothing.
 use denote.Ref.{now}
-use mathlib.Core.Path.{_≡_, refl, sym, ap, _∙_}
+use mathlib.Core.Path.{_≡_, sym, ap, _∙_}
 use mathlib.Core.Bool.{Bool}
 use mathlib.Core.List.{List}
-use Prim.Native.Nat.{ℕ, _+_, _-_, _^_, _≤_, _<_}
+use Prim.Native.Nat.{ℕ, _+_, _-_, _^_, _<_}
 use native.Mathlib.Omega.{arith}
 use borrow.Author.Needs.{needs}
 use lib.ListN.{length, take, drop, length-take, length-drop}
-use Rattle.framing.specs.Layouts.{payloadSize}
 use Rattle.ids.specs.declared.PortId.{PortId}
 use Rattle.ports.specs.declared.Ports.{Ports}
 use Rattle.payload.specs.declared.walk.Received.{Received}
 use Rattle.payload.specs.declared.frames.Next.the-variants.{Frame}
-use Rattle.payload.specs.Inside.{Inside}
 use Rattle.payload.specs.Frames.{nextOf}
 use Rattle.payload.specs.Memory.{Receiver}
 use Rattle.payload.specs.Walk.{Walked, endedBy}
 use Rattle.payload.proofs.Steps.{ready-less}
-use Rattle.payload.proofs.Walks.{At, Numbers, numbers-of, at-start, at-done, at-lost, at-turn, rest-part, body-part}
+use Rattle.payload.proofs.Walks.{At, Numbers, numbers-of, at-start, at-done, at-lost, at-turn, rest-part}
 use Rattle.payload.proofs.walk.walk_frames.Statement.{statement}
 use Rattle.payload.proofs.walk.walk_frames.Tie as tie
 
@@ -29,11 +27,11 @@ abbrev receiver : Ports → ℕ → List ℕ → List ℕ → Receiver
 receiver p bytes memory deliveries = record { ports = p; bytes = bytes; memory = memory; deliveries = deliveries }
 
 abbrev Inv-loop : tie.InvT-loop
-Inv-loop syndromes flips own memory₀ deliveries₀ place payload ids lengths₀ waiting₀ bytes₀ at₀ memory deliveries lengths waiting bytes at =
+Inv-loop own memory₀ deliveries₀ place payload ids lengths₀ waiting₀ bytes₀ at₀ memory deliveries lengths waiting bytes at =
     At own place payload (receiver (together ids lengths₀ waiting₀) bytes₀ memory₀ deliveries₀) (receiver (together ids lengths waiting) bytes memory deliveries) at × (length payload < 2 ^ 64)
 
 abbrev μ-loop : tie.MeasureT-loop
-μ-loop syndromes flips own memory₀ deliveries₀ place payload ids lengths₀ waiting₀ bytes₀ at₀ memory deliveries lengths waiting bytes at = length payload - at
+μ-loop own memory₀ deliveries₀ place payload ids lengths₀ waiting₀ bytes₀ at₀ memory deliveries lengths waiting bytes at = length payload - at
 
 abbrev walked : List ℕ → List ℕ → Received → Walked
 walked memory deliveries r = record { receiver = record { ports = r .ports; bytes = r .bytes; memory = memory; deliveries = deliveries }; delineation = r .delineation }
@@ -65,7 +63,7 @@ loop-holds : tie.Need-loop-holds Inv-loop μ-loop
 unfolding start
 loop-holds c =
     let s = c .before .before .before .before .before .before in
-    (at-start (s .args .own) (s .args .place) (now (s .args .payload)) (start s) (s .pre .1), omega arith)
+    (at-start (s .args .own) (s .args .place) (now (s .args .payload)) (start s) (s .pre), omega arith)
 
 sub-next-frame : tie.Need-sub-next-frame Inv-loop μ-loop
 sub-next-frame c = omega (arith, c .loop .inv .0 .inside)
@@ -77,7 +75,7 @@ part-next-frame-end : tie.Need-part-next-frame-end Inv-loop μ-loop
 part-next-frame-end c = omega (arith, c .loop .inv .0 .inside)
 
 next-frame-requires : tie.Need-next-frame-requires Inv-loop μ-loop
-next-frame-requires c κs = c .before .before .before .before .before .before .before .before .pre .0
+next-frame-requires c κs = search needs
 
 enum-told : tie.Need-enum-told Inv-loop μ-loop
 enum-told c = search needs

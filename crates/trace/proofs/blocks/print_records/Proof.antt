@@ -22,7 +22,7 @@ showing p memory plan replies deliveries text =
 
 -- what is still to come shows what all of it showed from the start
 abbrev Inv-loop : tie.InvT-loop
-Inv-loop syndromes flips mix input count memory₀ plan₀ replies₀ deliveries₀ text₀ p₀ i₀ memory plan replies deliveries text p i =
+Inv-loop input count memory₀ plan₀ replies₀ deliveries₀ text₀ p₀ i₀ memory plan replies deliveries text p i =
     (i ≤ count)
     × (p .place ≤ 126 * i)
     × (shownFrom (showing p memory plan replies deliveries text) (records (count - i) (drop (i * 1024) input))
@@ -34,7 +34,7 @@ Inv-loop syndromes flips mix input count memory₀ plan₀ replies₀ deliveries
     × (length text ≡ length text₀)
 
 abbrev μ-loop : tie.MeasureT-loop
-μ-loop syndromes flips mix input count memory₀ plan₀ replies₀ deliveries₀ text₀ p₀ i₀ memory plan replies deliveries text p i = count - i
+μ-loop input count memory₀ plan₀ replies₀ deliveries₀ text₀ p₀ i₀ memory plan replies deliveries text p i = count - i
 
 loop-holds : tie.Need-loop-holds Inv-loop μ-loop
 loop-holds c =
@@ -43,28 +43,28 @@ loop-holds c =
     (omega arith, omega arith, block-start (a .input .now) (a .count) s, refl, refl, refl, refl, refl)
 
 mul-from : tie.Need-mul-from Inv-loop μ-loop
-mul-from c = omega (arith, c .loop-test .taken, c .before .before .before .before .before .before .before .before .pre .2)
+mul-from c = omega (arith, c .loop-test .taken, c .before .before .before .before .before .before .before .before .pre .0)
 
 add-to : tie.Need-add-to Inv-loop μ-loop
-add-to c = omega (arith, c .loop-test .taken, c .before .before .before .before .before .before .before .before .pre .2)
+add-to c = omega (arith, c .loop-test .taken, c .before .before .before .before .before .before .before .before .pre .0)
 
 sub-print-record : tie.Need-sub-print-record Inv-loop μ-loop
-sub-print-record c = omega (arith, c .before .loop-test .taken, c .before .before .before .before .before .before .before .before .before .pre .2)
+sub-print-record c = omega (arith, c .before .loop-test .taken, c .before .before .before .before .before .before .before .before .before .pre .0)
 
 part-print-record-start : tie.Need-part-print-record-start Inv-loop μ-loop
-part-print-record-start c = omega (arith, c .before .loop-test .taken, c .before .before .before .before .before .before .before .before .before .pre .2)
+part-print-record-start c = omega (arith, c .before .loop-test .taken, c .before .before .before .before .before .before .before .before .before .pre .0)
 
 part-print-record-end : tie.Need-part-print-record-end Inv-loop μ-loop
-part-print-record-end c = omega (arith, c .before .loop-test .taken, c .before .before .before .before .before .before .before .before .before .pre .2)
+part-print-record-end c = omega (arith, c .before .loop-test .taken, c .before .before .before .before .before .before .before .before .before .pre .0)
 
 print-record-requires : tie.Need-print-record-requires Inv-loop μ-loop
-print-record-requires c κs = (c .before .before .before .before .before .before .before .before .before .before .before .before .before .before .before .pre .0, c .before .before .before .before .before .before .before .before .before .before .before .before .before .before .before .pre .1, omega (arith, c .before .before .before .before .before .before .before .before .loop .inv .1, c .before .before .before .before .before .before .before .before .loop .inv .7, c .before .before .before .before .before .before .before .before .before .before .before .before .before .before .before .pre .3, c .before .before .before .before .before .before .before .loop-test .taken))
+print-record-requires c κs = omega (arith, c .before .before .before .before .before .before .before .before .loop .inv .1, c .before .before .before .before .before .before .before .before .loop .inv .7, c .before .before .before .before .before .before .before .before .before .before .before .before .before .before .before .pre .1, c .before .before .before .before .before .before .before .loop-test .taken)
 
 add-i : tie.Need-add-i Inv-loop μ-loop
 add-i c = omega (arith, c .before .before .before .before .before .before .before .before .before .before .before .before .before .before .before .before .before .before .loop-test .taken, c .before .before .before .before .before .before .before .before .before .before .before .before .before .before .before .before .before .before .before .before .before .before .before .before .before .before .fits .count .fits)
 
 loop-less : tie.Need-loop-less Inv-loop μ-loop
-loop-less c = omega (arith, c .before .before .before .before .before .before .before .before .before .before .before .before .before .before .before .before .before .before .loop-test .taken, c .before .before .before .before .before .before .before .before .before .before .before .before .before .before .before .before .before .before .before .before .before .before .before .before .before .before .pre .2)
+loop-less c = omega (arith, c .before .before .before .before .before .before .before .before .before .before .before .before .before .before .before .before .before .before .loop-test .taken, c .before .before .before .before .before .before .before .before .before .before .before .before .before .before .before .before .before .before .before .before .before .before .before .before .before .before .pre .0)
 
 loop-again : tie.Need-loop-again Inv-loop μ-loop
 loop-again c =
@@ -72,12 +72,12 @@ loop-again c =
     let k = c .before .before .before .before .before .before .before .before .before .before .print-record .kept in (
       omega (arith, c .before .before .before .before .before .before .before .before .before .before .before .before .before .before .before .before .before .before .loop-test .taken),
       omega (arith, c .before .before .before .before .before .before .before .before .before .before .print-record .ensures .1, l .inv .1),
-      block-turn (c .before .before .before .before .before .before .before .before .before .before .before .before .before .before .before .before .before .before .before .before .before .before .before .before .before .before .args .input .now) (c .before .before .before .before .before .before .before .before .before .before .before .before .before .before .before .before .before .before .before .before .before .before .before .before .before .before .args .count) (l .i) (showing (l .p) (l .memory) (l .plan) (l .replies) (l .deliveries) (l .text)) _ (c .before .before .before .before .before .before .before .before .before .before .before .before .before .before .before .before .before .before .loop-test .taken) (omega (arith, l .inv .1, l .inv .7, c .before .before .before .before .before .before .before .before .before .before .before .before .before .before .before .before .before .before .before .before .before .before .before .before .before .before .pre .3, c .before .before .before .before .before .before .before .before .before .before .before .before .before .before .before .before .before .before .loop-test .taken)) (c .before .before .before .before .before .before .before .before .before .before .print-record .ensures .0) ∙ l .inv .2,
-      k .1 .1 .1 .1 .1 .0 ∙ l .inv .3,
-      k .1 .1 .1 .1 .1 .1 .0 ∙ l .inv .4,
-      k .1 .1 .1 .1 .1 .1 .1 .0 ∙ l .inv .5,
-      k .1 .1 .1 .1 .1 .1 .1 .1 .0 ∙ l .inv .6,
-      k .1 .1 .1 .1 .1 .1 .1 .1 .1 .0 ∙ l .inv .7,
+      block-turn (c .before .before .before .before .before .before .before .before .before .before .before .before .before .before .before .before .before .before .before .before .before .before .before .before .before .before .args .input .now) (c .before .before .before .before .before .before .before .before .before .before .before .before .before .before .before .before .before .before .before .before .before .before .before .before .before .before .args .count) (l .i) (showing (l .p) (l .memory) (l .plan) (l .replies) (l .deliveries) (l .text)) _ (c .before .before .before .before .before .before .before .before .before .before .before .before .before .before .before .before .before .before .loop-test .taken) (omega (arith, l .inv .1, l .inv .7, c .before .before .before .before .before .before .before .before .before .before .before .before .before .before .before .before .before .before .before .before .before .before .before .before .before .before .pre .1, c .before .before .before .before .before .before .before .before .before .before .before .before .before .before .before .before .before .before .loop-test .taken)) (c .before .before .before .before .before .before .before .before .before .before .print-record .ensures .0) ∙ l .inv .2,
+      k .1 .1 .0 ∙ l .inv .3,
+      k .1 .1 .1 .0 ∙ l .inv .4,
+      k .1 .1 .1 .1 .0 ∙ l .inv .5,
+      k .1 .1 .1 .1 .1 .0 ∙ l .inv .6,
+      k .1 .1 .1 .1 .1 .1 .0 ∙ l .inv .7,
     )
 
 same-length : tie.Need-same-length Inv-loop μ-loop

@@ -29,31 +29,31 @@ lost-requires : tie.Need-lost-requires
 lost-requires c κs = tt
 
 print-outcome-requires : tie.Need-print-outcome-requires
-print-outcome-requires c κs = c .before .before .before .before .before .before .before .before .before .before .before .before .before .before .pre .2
+print-outcome-requires c κs = c .before .before .before .before .before .before .before .before .before .before .before .before .before .before .pre
 
 enum-told-2 : tie.Need-enum-told-2
 enum-told-2 c = search needs
 
-sub-frame-by : tie.Need-sub-frame-by
-sub-frame-by c = omega (arith, frame-whole (c .before .before .before .before .before .before .before .before .before .before .before .before .args .octets .now) (c .before .before .before .kind-of .result) (c .before .before .before .kind-of .ensures) (c .before .enum-told2 .given .1))
+sub-frame : tie.Need-sub-frame
+sub-frame c = omega (arith, frame-whole (c .before .before .before .before .before .before .before .before .before .before .before .before .args .octets .now) (c .before .before .before .kind-of .result) (c .before .before .before .kind-of .ensures) (c .before .enum-told2 .given .1))
 
-part-frame-by-start : tie.Need-part-frame-by-start
-part-frame-by-start c = omega (arith, frame-whole (c .before .before .before .before .before .before .before .before .before .before .before .before .args .octets .now) (c .before .before .before .kind-of .result) (c .before .before .before .kind-of .ensures) (c .before .enum-told2 .given .1))
+part-frame-start : tie.Need-part-frame-start
+part-frame-start c = omega (arith, frame-whole (c .before .before .before .before .before .before .before .before .before .before .before .before .args .octets .now) (c .before .before .before .kind-of .result) (c .before .before .before .kind-of .ensures) (c .before .enum-told2 .given .1))
 
-part-frame-by-end : tie.Need-part-frame-by-end
-part-frame-by-end c = search needs
+part-frame-end : tie.Need-part-frame-end
+part-frame-end c = search needs
 
-frame-by-requires : tie.Need-frame-by-requires
-frame-by-requires c κs = (c .before .before .before .before .before .before .before .before .before .before .before .before .before .before .before .before .pre .0, c .before .before .before .before .before .before .before .before .before .before .before .before .before .before .before .before .pre .1)
+frame-requires : tie.Need-frame-requires
+frame-requires c κs = tt
 
 print-outcome-requires-2 : tie.Need-print-outcome-requires-2
-print-outcome-requires-2 c κs = c .before .before .before .before .before .before .before .before .before .before .before .before .before .before .before .before .before .before .before .before .before .before .before .before .before .before .pre .2
+print-outcome-requires-2 c κs = c .before .before .before .before .before .before .before .before .before .before .before .before .before .before .before .before .before .before .before .before .before .before .before .before .before .before .pre
 
 enum-told-3 : tie.Need-enum-told-3
 enum-told-3 c = search needs
 
 put-bad-requires : tie.Need-put-bad-requires
-put-bad-requires c κs = c .before .before .before .before .before .before .before .before .before .before .before .before .pre .2
+put-bad-requires c κs = c .before .before .before .before .before .before .before .before .before .before .before .before .pre
 
 stop-requires : tie.Need-stop-requires
 stop-requires c κs = tt
@@ -68,16 +68,16 @@ returns-2 c =
     (lost-step (at-start (c .before .before .before .before .before .before .before .before .before .before .before .before .before .before .before .before .before)) (a .octets .now) (c .before .before .before .before .before .before .before .before .kind-of .result) (c .before .before .before .before .before .before .before .before .before .before .if1 .left) (c .before .before .before .before .before .before .before .before .kind-of .ensures) (a .text .now) _ (a .place) _ _ (c .before .before .before .before .before .before .enum-told .given .1) (c .before .before .before .before .before .lost .result) (c .before .before .before .before .before .lost .ensures) (e .0) (e .1) (e .2), e .3)
 
 same-length-2 : tie.Need-same-length-2
-same-length-2 c = c .before .before .before .before .before .before .before .before .before .before .before .before .frame-by .kept .1 .1 .1 .1 .0
+same-length-2 c = c .before .before .before .before .before .before .before .before .before .before .before .before .frame .kept .1 .0
 
 same-length-3 : tie.Need-same-length-3
-same-length-3 c = c .before .before .before .before .before .before .before .before .before .before .before .before .frame-by .kept .1 .1 .1 .1 .1 .1 .1 .0
+same-length-3 c = c .before .before .before .before .before .before .before .before .before .before .before .before .frame .kept .1 .1 .1 .1 .0
 
 same-length-4 : tie.Need-same-length-4
-same-length-4 c = c .before .before .before .before .before .before .before .before .before .before .before .before .frame-by .kept .1 .1 .1 .1 .1 .1 .1 .1 .0
+same-length-4 c = c .before .before .before .before .before .before .before .before .before .before .before .before .frame .kept .1 .1 .1 .1 .1 .0
 
 same-length-5 : tie.Need-same-length-5
-same-length-5 c = c .before .before .before .before .before .before .before .before .before .before .before .before .frame-by .kept .1 .1 .1 .1 .1 .1 .1 .1 .1 .0
+same-length-5 c = c .before .before .before .before .before .before .before .before .before .before .before .before .frame .kept .1 .1 .1 .1 .1 .1 .0
 
 same-length-6 : tie.Need-same-length-6
 same-length-6 c = c .before .before .print-outcome2 .kept .1 .1 .0
@@ -86,7 +86,7 @@ returns-3 : tie.Need-returns-3
 returns-3 c =
     let a = c .before .before .before .before .before .before .before .before .before .before .before .before .before .before .before .before .before .before .before .before .before .before .before .before .before .before .before .before .before .args in
     let e = c .before .before .print-outcome2 .ensures in
-    (frame-step (at-start (c .before .before .before .before .before .before .before .before .before .before .before .before .before .before .before .before .before .before .before .before .before .before .before .before .before .before .before .before .before)) (a .octets .now) (c .before .before .before .before .before .before .before .before .before .before .before .before .before .before .before .before .before .before .before .before .kind-of .result) (c .before .before .before .before .before .before .before .before .before .before .before .before .before .before .before .before .before .before .before .before .before .before .if1 .left) (c .before .before .before .before .before .before .before .before .before .before .before .before .before .before .before .before .before .before .before .before .kind-of .ensures) (a .text .now) _ (a .place) _ _ (c .before .before .before .before .before .before .before .before .before .before .before .before .before .before .before .before .before .before .enum-told2 .given .1) (c .before .before .before .before .before .before .before .before .before .before .before .before .frame-by .result) _ (c .before .before .before .before .before .before .before .before .before .before .before .before .frame-by .ensures) (e .0) (e .1) (e .2), e .3)
+    (frame-step (at-start (c .before .before .before .before .before .before .before .before .before .before .before .before .before .before .before .before .before .before .before .before .before .before .before .before .before .before .before .before .before)) (a .octets .now) (c .before .before .before .before .before .before .before .before .before .before .before .before .before .before .before .before .before .before .before .before .kind-of .result) (c .before .before .before .before .before .before .before .before .before .before .before .before .before .before .before .before .before .before .before .before .before .before .if1 .left) (c .before .before .before .before .before .before .before .before .before .before .before .before .before .before .before .before .before .before .before .before .kind-of .ensures) (a .text .now) _ (a .place) _ _ (c .before .before .before .before .before .before .before .before .before .before .before .before .before .before .before .before .before .before .enum-told2 .given .1) (c .before .before .before .before .before .before .before .before .before .before .before .before .frame .result) _ (c .before .before .before .before .before .before .before .before .before .before .before .before .frame .ensures) (e .0) (e .1) (e .2), e .3)
 
 same-length-7 : tie.Need-same-length-7
 same-length-7 c = c .before .before .before .put-bad .kept .1 .0
@@ -107,10 +107,10 @@ print-record-spec =
     lost-requires
     print-outcome-requires
     enum-told-2
-    sub-frame-by
-    part-frame-by-start
-    part-frame-by-end
-    frame-by-requires
+    sub-frame
+    part-frame-start
+    part-frame-end
+    frame-requires
     print-outcome-requires-2
     enum-told-3
     put-bad-requires

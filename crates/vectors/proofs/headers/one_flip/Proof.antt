@@ -6,10 +6,10 @@ use Rattle.vectors.proofs.headers.one_flip.Statement.{statement}
 use Rattle.vectors.proofs.headers.one_flip.Tie as tie
 
 abbrev Inv-loop : tie.InvT-loop
-Inv-loop syndromes flips bits mended wanted word below right₀ at₀ right at = at ≤ below
+Inv-loop bits mended wanted word below right₀ at₀ right at = at ≤ below
 
 abbrev μ-loop : tie.MeasureT-loop
-μ-loop syndromes flips bits mended wanted word below right₀ at₀ right at = below - at
+μ-loop bits mended wanted word below right₀ at₀ right at = below - at
 
 loop-holds : tie.Need-loop-holds Inv-loop μ-loop
 loop-holds c = search needs

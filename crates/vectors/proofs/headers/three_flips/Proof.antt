@@ -6,10 +6,10 @@ use Rattle.vectors.proofs.headers.three_flips.Statement.{statement}
 use Rattle.vectors.proofs.headers.three_flips.Tie as tie
 
 abbrev Inv-loop : tie.InvT-loop
-Inv-loop syndromes flips bits wanted word right₀ at₀ right at = at ≤ bits
+Inv-loop bits wanted word right₀ at₀ right at = at ≤ bits
 
 abbrev μ-loop : tie.MeasureT-loop
-μ-loop syndromes flips bits wanted word right₀ at₀ right at = bits - at
+μ-loop bits wanted word right₀ at₀ right at = bits - at
 
 loop-holds : tie.Need-loop-holds Inv-loop μ-loop
 loop-holds c = search needs

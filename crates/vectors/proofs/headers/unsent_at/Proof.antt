@@ -6,10 +6,10 @@ use Rattle.vectors.proofs.headers.unsent_at.Statement.{statement}
 use Rattle.vectors.proofs.headers.unsent_at.Tie as tie
 
 abbrev Inv-loop : tie.InvT-loop
-Inv-loop syndromes remainders flips above right₀ k₀ right k = k ≤ 31
+Inv-loop remainders above right₀ k₀ right k = k ≤ 31
 
 abbrev μ-loop : tie.MeasureT-loop
-μ-loop syndromes remainders flips above right₀ k₀ right k = 31 - k
+μ-loop remainders above right₀ k₀ right k = 31 - k
 
 loop-holds : tie.Need-loop-holds Inv-loop μ-loop
 loop-holds c = search needs

@@ -6,19 +6,13 @@ use Rattle.vectors.proofs.headers.unsent_zeros.Statement.{statement}
 use Rattle.vectors.proofs.headers.unsent_zeros.Tie as tie
 
 abbrev Inv-loop : tie.InvT-loop
-Inv-loop syndromes remainders flips right₀ k₀ t7 right k = k ≤ 63
+Inv-loop remainders right₀ k₀ t5 right k = k ≤ 63
 
 abbrev μ-loop : tie.MeasureT-loop
-μ-loop syndromes remainders flips right₀ k₀ t7 right k = 63 - k
+μ-loop remainders right₀ k₀ t5 right k = 63 - k
 
 table-requires : tie.Need-table-requires Inv-loop μ-loop
 table-requires c κs = search needs
-
-table-requires-2 : tie.Need-table-requires-2 Inv-loop μ-loop
-table-requires-2 c κs = search needs
-
-table-requires-3 : tie.Need-table-requires-3 Inv-loop μ-loop
-table-requires-3 c κs = search needs
 
 loop-holds : tie.Need-loop-holds Inv-loop μ-loop
 loop-holds c = search needs
@@ -63,8 +57,6 @@ unsent-zeros-spec =
     Inv-loop
     μ-loop
     table-requires
-    table-requires-2
-    table-requires-3
     loop-holds
     mul-above
     array-read-above

@@ -1,0 +1,2 @@
+pub mod OctetRule
+pub mod Sums
