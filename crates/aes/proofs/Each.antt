@@ -102,6 +102,23 @@ both i (suc n) f g (a ∷ b ∷ c ∷ d ∷ l) =
     let w = f i (g i (record { a = a; b = b; c = c; d = d })) in
     ap (λ (t : List ℕ). w .a ∷ w .b ∷ w .c ∷ w .d ∷ t) (both (suc i) n f g l)
 
+-- two workings that agree at the blocks that there are
+pub alike : (i n : ℕ) (f g : ℕ → Words → Words) (l : List ℕ) → ((j : ℕ) → j < n → (x : Words) → f (i + j) x ≡ g (i + j) x)
+    → eachFrom i n f l ≡ eachFrom i n g l
+alike i zero f g l h = refl
+alike i (suc n) f g [] h = refl
+alike i (suc n) f g (a ∷ []) h = refl
+alike i (suc n) f g (a ∷ b ∷ []) h = refl
+alike i (suc n) f g (a ∷ b ∷ c ∷ []) h = refl
+alike i (suc n) f g (a ∷ b ∷ c ∷ d ∷ l) h =
+    let x : Words = record { a = a; b = b; c = c; d = d } in
+    let e : f i x ≡ g i x = ap (λ (k : ℕ). f k x) (sym (add-zero i)) ∙ h 0 (omega arith) x ∙ ap (λ (k : ℕ). g k x) (add-zero i) in
+    ap₂ (λ (w : Words) (t : List ℕ). w .a ∷ w .b ∷ w .c ∷ w .d ∷ t) e
+    (alike (suc i) n f g l
+    (λ j hj y.
+    let s : suc i + j ≡ i + suc j = omega arith in
+    ap (λ (k : ℕ). f k y) s ∙ h (suc j) (omega arith) y ∙ ap (λ (k : ℕ). g k y) (sym s)))
+
 pub same : (i n : ℕ) (l : List ℕ) → eachFrom i n (λ j x. x) l ≡ l
 same i zero l = refl
 same i (suc n) [] = refl

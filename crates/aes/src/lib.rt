@@ -291,13 +291,17 @@ fn last_round_each(k: Words, n: usize, blocks: &mut [u32; 32])
 // Tells the prover how many words an array has that is known by a reference alone; the compiler leaves nothing of it.
 fn sized(blocks: [u32; 32])
     ensures { λ _. ⌜ length blocks ≡ 32 ⌝ }
-{
-}
+{}
 
-fn at_most(count: usize) -> usize
+// As many blocks of a wish as are worked at once.
+pub fn at_most(count: usize) -> usize
     ensures { λ r. ⌜ (r ≡ min count mostBlocks) × (r ≤ mostBlocks) ⌝ }
 {
-    if count <= MOST_BLOCKS { count } else { MOST_BLOCKS }
+    if count <= MOST_BLOCKS {
+        count
+    } else {
+        MOST_BLOCKS
+    }
 }
 
 // The first `count` blocks, eight at most, each enciphered; the others are as they were.

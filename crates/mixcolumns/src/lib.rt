@@ -5,9 +5,9 @@ ghost use Prim.Native.Nat.{_%_};
 ghost use Rattle.mixcolumns.specs.Columns.{mixOf, turned};
 
 mod first;
+mod fourth;
 mod second;
 mod third;
-mod fourth;
 
 pub fn row0(x: u32) -> u32
     ensures { λ r. ⌜ r ≡ mixOf (x % 256) ⌝ }

@@ -8,7 +8,7 @@ use denote.Ref.{now}
 use lib.ListN.{length}
 use Rattle.aes.specs.Words.{added}
 use Rattle.cmac.specs.Mac.{before}
-use Rattle.cmac.specs.ByTable.{blockBy}
+use Rattle.cmac.specs.Tags.{blockBy}
 use Rattle.cmac.proofs.add_next.Statement.{statement}
 use Rattle.cmac.proofs.add_next.Tie as tie
 

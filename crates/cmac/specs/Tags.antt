@@ -1,16 +1,16 @@
--- AES-CMAC by a lent table and a prepared key, for every table and every prepared key. For `mixTable` and the key
--- prepared with it, it is AES-CMAC under that key: `mac-by-mix-table` of proofs/Macs.
+-- AES-CMAC on words under a prepared key, for every prepared key, and of several messages at once. For a key as `preparedBy` makes
+-- it, it is AES-CMAC under that key: `mac-prepared` of proofs/Macs.
 -- Assumes nothing.
 use Prim.Native.Nat.{ℕ, zero, suc, _+_, _*_, _/_, _%_}
 use mathlib.Core.Bool.{cond}
 use mathlib.Core.Path.{_≡_}
 use mathlib.Core.List.{List}
-use lib.ListN.{length, take}
+use lib.ListN.{length, take, drop, replicate}
 use lib.Dec.{eqb, ltb}
 use lib.Bits.{bitXor}
 use Rattle.aes.specs.Words.{joined, octetsOf, wordsOf, added, noWords, Octets}
-use Rattle.aes.specs.ByTable.{roundKeysBy, cipherBy}
-use Rattle.aes.specs.declared.RoundKeys.{RoundKeys}
+use Rattle.aes.specs.OnWords.{cipherOn}
+use Rattle.aes.specs.Blocks.{each}
 use Rattle.aes.specs.declared.Words.{Words}
 use Rattle.cmac.specs.Mac.{rb, paddedAt, blockAt, before}
 use Rattle.cmac.specs.declared.Prepared.{Prepared}
@@ -31,25 +31,24 @@ doubledWords w =
       d = lastWord (w .d) (w .a);
     }
 
--- the round keys, K1 and K2
-unfoldable pub preparedBy : List ℕ → Words → Prepared
-preparedBy t k =
-    let all = roundKeysBy t k in
-    let k1 = doubledWords (cipherBy t all noWords) in
-    record { keys = all; whole = k1; padded = doubledWords k1 }
+-- the key, K1 and K2
+unfoldable pub preparedBy : Words → Prepared
+preparedBy k =
+    let k1 = doubledWords (cipherOn k noWords) in
+    record { key = k; whole = k1; padded = doubledWords k1 }
 
 -- a key, prepared; its octets are octets
-pub record Ready (t key : List ℕ) (p : Prepared) : Type 0 where
-  pub made : p ≡ preparedBy t (wordsOf key)
+pub record Ready (key : List ℕ) (p : Prepared) : Type 0 where
+  pub made : p ≡ preparedBy (wordsOf key)
   pub octets : Octets key
 
 -- four octets of the padded message from octet j on
 unfoldable pub wordAt : List ℕ → ℕ → ℕ
 wordAt m j = joined (paddedAt m j) (paddedAt m (j + 1)) (paddedAt m (j + 2)) (paddedAt m (j + 3))
 
-unfoldable pub chainedBy : List ℕ → RoundKeys → List ℕ → ℕ → Words
-chainedBy t ks m zero = noWords
-chainedBy t ks m (suc i) = cipherBy t ks (added (chainedBy t ks m i) (wordsOf (blockAt m (i * 16))))
+unfoldable pub chainedBy : Words → List ℕ → ℕ → Words
+chainedBy k m zero = noWords
+chainedBy k m (suc i) = cipherOn k (added (chainedBy k m i) (wordsOf (blockAt m (i * 16))))
 
 unfoldable pub lastBlockBy : Prepared → List ℕ → ℕ → Words
 lastBlockBy p m j = added (wordsOf (blockAt m j)) (cond (eqb (length m) (j + 16)) (p .whole) (p .padded))
@@ -58,12 +57,20 @@ lastBlockBy p m j = added (wordsOf (blockAt m j)) (cond (eqb (length m) (j + 16)
 unfoldable pub blockBy : Prepared → List ℕ → ℕ → Words
 blockBy p m i = cond (ltb i (before m)) (wordsOf (blockAt m (i * 16))) (lastBlockBy p m (i * 16))
 
-unfoldable pub tagBy : List ℕ → Prepared → List ℕ → Words
-tagBy t p m =
-    cipherBy t (p .keys) (added (chainedBy t (p .keys) m (before m)) (lastBlockBy p m (before m * 16)))
+unfoldable pub tagBy : Prepared → List ℕ → Words
+tagBy p m = cipherOn (p .key) (added (chainedBy (p .key) m (before m)) (lastBlockBy p m (before m * 16)))
 
-abbrev pub macBy : List ℕ → Prepared → List ℕ → List ℕ
-macBy t p m = octetsOf (tagBy t p m)
+abbrev pub macBy : Prepared → List ℕ → List ℕ
+macBy p m = octetsOf (tagBy p m)
 
-abbrev pub mac64By : List ℕ → Prepared → List ℕ → List ℕ
-mac64By t p m = take 8 (macBy t p m)
+abbrev pub mac64By : Prepared → List ℕ → List ℕ
+mac64By p m = take 8 (macBy p m)
+
+-- ---- n messages of one length, one behind the other
+
+abbrev pub messageOf : List ℕ → ℕ → ℕ → List ℕ
+messageOf ms size j = take size (drop (j * size) ms)
+
+-- their tags, as blocks of an array of 32 words that is 0 where there is none
+unfoldable pub tagsBy : Prepared → List ℕ → ℕ → List ℕ
+tagsBy p ms n = each n (λ j x. tagBy p (messageOf ms (length ms / n) j)) (replicate 32 0)
