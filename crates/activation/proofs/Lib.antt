@@ -1,3 +1,4 @@
 pub mod Receiving
 pub mod Asking
 pub mod PassingOver
+pub mod Apart

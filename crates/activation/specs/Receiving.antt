@@ -34,6 +34,11 @@ abbrev pub receiveAll : Station → List (List ℕ) → Station
 receiveAll s [] = s
 receiveAll s (m ∷ l) = receiveAll (receive s m) l
 
+-- the same for any account of which messages are genuine
+abbrev pub actAll : (List ℕ → Bool) → Station → List (List ℕ) → Station
+actAll isGenuine s [] = s
+actAll isGenuine s (m ∷ l) = actAll isGenuine (acting s (isGenuine m) (received m)) l
+
 abbrev pub AllReceived : Station → List ℕ → Station → Type 0
 AllReceived s b r = r ≡ receiveAll s (messagesIn b)
 
