@@ -2,3 +2,4 @@ pub mod Receiving
 pub mod Asking
 pub mod PassingOver
 pub mod Apart
+pub mod Verdicts
