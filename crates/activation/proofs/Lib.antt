@@ -1,3 +1,5 @@
 pub mod Receiving
 pub mod Asking
 pub mod PassingOver
+pub mod Apart
+pub mod Verdicts

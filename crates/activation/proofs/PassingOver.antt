@@ -17,7 +17,7 @@ use Rattle.ploam.specs.declared.Content.{Content}
 use Rattle.ploam.specs.declared.Content.the-variants.{Profile, AssignOnuId, RangingTime, DeactivateOnuId, DisableSerialNumber, RequestRegistration, AssignAllocId, KeyControl, SleepAllow, Unknown}
 use Rattle.ploam.specs.declared.Message.{Message}
 use Rattle.ploam.specs.declared.Received.the-variants.{Whole, Short}
-use Rattle.ploam.specs.Layout.{messageOctets, addressOf, typeOf}
+use Rattle.ploam.specs.Layout.{messageOctets, messageAt, addressOf, typeOf}
 use Rattle.ploam.specs.Reading.{contentAs, messageOf, received}
 use Rattle.station.specs.declared.Station.{Station}
 use Rattle.link.specs.declared.Allocs.{Allocs}
@@ -39,7 +39,7 @@ use Rattle.decisions.specs.Decisions.{found, assignOnuId, allocChange, assignAl
 use Rattle.decisions.specs.Decisions.{byContent, isBroadcast, isOurs, effectOf, fitting, decision}
 use Rattle.decisions.specs.Acts.{act}
 use Rattle.decisions.proofs.Acting.{act-ignored}
-use Rattle.activation.specs.Receiving.{acting, receive, messageAt, messagesFrom, receiveAll, receivedBy, receivedEachBy}
+use Rattle.activation.specs.Receiving.{acting, receive, messagesFrom, receiveAll, receivedBy, receivedEachBy}
 use Rattle.activation.specs.Inert.{fullOf, inert, pastInert}
 use Rattle.activation.proofs.Receiving.{each-turn}
 

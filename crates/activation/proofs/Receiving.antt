@@ -11,7 +11,7 @@ use Rattle.aes.specs.Words.{wordsOf, Octets}
 use Rattle.aes.specs.MixTable.{mixTable}
 use Rattle.cmac.specs.ByTable.{preparedBy}
 use Rattle.cmac.specs.declared.Prepared.{Prepared}
-use Rattle.ploam.specs.Layout.{messageOctets}
+use Rattle.ploam.specs.Layout.{messageOctets, messageAt}
 use Rattle.ploam.specs.Reading.{received}
 use Rattle.integrity.specs.Integrity.{defaultKey, installedKey, genuine, genuineBy}
 use Rattle.ploam.specs.declared.Received.{Received}
@@ -21,7 +21,7 @@ use Rattle.station.specs.declared.Station.{Station}
 use Rattle.link.specs.declared.Key.{Key}
 use Rattle.link.specs.Link.{noKey}
 use Rattle.decisions.proofs.Acting.{act-key}
-use Rattle.activation.specs.Receiving.{acting, receive, messageAt, messagesFrom, receiveAll, genuineNow, receivedBy, receivedEachBy}
+use Rattle.activation.specs.Receiving.{acting, receive, messagesFrom, receiveAll, genuineNow, receivedBy, receivedEachBy}
 
 -- ---- one turn
 

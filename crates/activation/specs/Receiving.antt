@@ -1,12 +1,12 @@
 -- The messages of a frame: "Messages act one after another, each on the state left by the last".
 -- Assumes nothing.
-use Prim.Native.Nat.{ℕ, zero, suc, _+_, _*_, _/_}
+use Prim.Native.Nat.{ℕ, zero, suc, _+_, _/_}
 use mathlib.Core.Path.{_≡_}
 use mathlib.Core.Bool.{Bool, cond}
 use mathlib.Core.List.{List, [], _∷_}
-use lib.ListN.{length, take, drop}
+use lib.ListN.{length}
 use Rattle.cmac.specs.declared.Prepared.{Prepared}
-use Rattle.ploam.specs.Layout.{messageOctets}
+use Rattle.ploam.specs.Layout.{messageOctets, messageAt}
 use Rattle.ploam.specs.Reading.{received}
 use Rattle.integrity.specs.Integrity.{installedKey, genuine, genuineBy}
 use Rattle.ploam.specs.declared.Received.{Received}
@@ -22,10 +22,7 @@ acting s isGenuine Short = s
 unfoldable pub receive : Station → List ℕ → Station
 receive s m = acting s (genuine (installedKey (s .link .key .held) (s .link .key .octets)) m) (received m)
 
--- message i of the octets, from 0, and the k messages from it on
-abbrev pub messageAt : List ℕ → ℕ → List ℕ
-messageAt b i = take messageOctets (drop (messageOctets * i) b)
-
+-- the k messages from message i on
 abbrev pub messagesFrom : List ℕ → ℕ → ℕ → List (List ℕ)
 messagesFrom b i zero = []
 messagesFrom b i (suc k) = messageAt b i ∷ messagesFrom b (i + 1) k
@@ -36,6 +33,11 @@ messagesIn b = messagesFrom b 0 (length b / messageOctets)
 abbrev pub receiveAll : Station → List (List ℕ) → Station
 receiveAll s [] = s
 receiveAll s (m ∷ l) = receiveAll (receive s m) l
+
+-- the same for any account of which messages are genuine
+abbrev pub actAll : (List ℕ → Bool) → Station → List (List ℕ) → Station
+actAll isGenuine s [] = s
+actAll isGenuine s (m ∷ l) = actAll isGenuine (acting s (isGenuine m) (received m)) l
 
 abbrev pub AllReceived : Station → List ℕ → Station → Type 0
 AllReceived s b r = r ≡ receiveAll s (messagesIn b)

@@ -11,6 +11,7 @@ ghost use Rattle.activation.specs.Asking.{askedOf};
 ghost use Rattle.ploam.specs.Layout.{messageOctets};
 ghost use Rattle.activation.specs.Receiving.{messagesFrom, genuineNow, receivedBy, receivedEachBy, AllReceived};
 
+mod checking;
 mod inert;
 pub mod replying;
 

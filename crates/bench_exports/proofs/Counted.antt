@@ -11,10 +11,10 @@ use Rattle.aes.specs.Words.{Octets, wordsOf}
 use Rattle.aes.specs.MixTable.{mixTable}
 use Rattle.cmac.specs.declared.Prepared.{Prepared}
 use Rattle.cmac.specs.ByTable.{preparedBy}
-use Rattle.ploam.specs.Layout.{messageOctets}
+use Rattle.ploam.specs.Layout.{messageOctets, messageAt}
 use Rattle.integrity.specs.Integrity.{defaultKey, genuineBy}
 use Rattle.integrity.proofs.Keys.{octets-take, genuine-by-mix-table}
-use Rattle.activation.specs.Receiving.{messageAt, messagesFrom}
+use Rattle.activation.specs.Receiving.{messagesFrom}
 use Rattle.bench_exports.specs.Messages.{oneIf, genuineCount, genuineCountBy}
 
 module _ (t : List ℕ) (usual installed : Prepared) (b : List ℕ) (n i sum : ℕ) where

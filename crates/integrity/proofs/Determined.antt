@@ -10,6 +10,7 @@ use Rattle.cmac.specs.ByTable.{mac64By}
 use Rattle.cmac.specs.declared.Prepared.{Prepared}
 use Rattle.ploam.specs.Layout.{messageOctets, micField}
 use Rattle.integrity.specs.Integrity.{covered, same, micOf, micRight, micRightBy, genuineBy}
+use Rattle.integrity.specs.Rights.{rightsBy}
 use Rattle.integrity.specs.declared.Direction.{Direction}
 use Rattle.integrity.proofs.Same.{right-true, same-equal}
 
@@ -25,6 +26,10 @@ genuine-determined t usual installed m a b p q = p ∙ sym q
 pub sign-determined : (t : List ℕ) (key : Prepared) (direction : Direction) (octets a b : List ℕ)
     → a ≡ mac64By t key (covered direction octets) → b ≡ mac64By t key (covered direction octets) → a ≡ b
 sign-determined t key direction octets a b p q = p ∙ sym q
+
+pub rights-determined : (t : List ℕ) (key : Prepared) (messages places : List ℕ) (count : ℕ) (a b : List ℕ)
+    → a ≡ rightsBy t key messages places count → b ≡ rightsBy t key messages places count → a ≡ b
+rights-determined t key messages places count a b p q = p ∙ sym q
 
 -- an integrity field that is found right is the one that the key gives, in all eight octets
 pub right-means-equal : (key : List ℕ) (direction : Direction) (m : List ℕ) → micRight key direction m ≡ true

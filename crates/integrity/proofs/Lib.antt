@@ -3,3 +3,4 @@ pub mod Keys
 pub mod Signed
 pub mod Determined
 pub mod WhichKey
+pub mod SideBySide

@@ -6,8 +6,11 @@ ghost use lib.ListN.{length, take};
 ghost use Rattle.aes.specs.Words.{wordsOf};
 ghost use Rattle.aes.specs.MixTable.{mixTable};
 ghost use Rattle.cmac.specs.ByTable.{preparedBy, mac64By};
-ghost use Rattle.ploam.specs.Layout.{messageOctets, coveredOctets, addressOf, micField};
+ghost use mathlib.Core.Bool.{cond};
+ghost use Rattle.ploam.specs.Layout.{messageOctets, coveredOctets, messageAt, addressOf, micField};
 ghost use Rattle.integrity.specs.Integrity.{directionCode, covered, same, defaultKey, downstreamByDefault, upstreamByDefault, byDefault, micRightBy, genuineBy};
+ghost use Rattle.integrity.specs.Rights.{markOf, rightsBy};
+ghost use Rattle.integrity.specs.declared.Direction.the-variants.{Downstream};
 use aes::FirstKeys;
 use aes::LastKeys;
 use aes::RoundKeys;
@@ -22,6 +25,13 @@ use ploam::SERIAL_NUMBER_ONU;
 
 // The part of a message that the integrity field covers.
 pub const COVERED_OCTETS: usize = 40;
+
+// What is said of a message among several.
+pub const NOT_ASKED: u8 = 0;
+
+pub const RIGHT: u8 = 1;
+
+pub const NOT_RIGHT: u8 = 2;
 
 // Which way a message goes: it is a part of what the integrity field covers.
 pub enum Direction {
@@ -88,6 +98,52 @@ pub fn mic_right(t: &[u32; 1024], key: Prepared, direction: Direction, m: &[u8])
         return false;
     }
     has_mic(m, mic(t, key, direction, m))
+}
+
+// What is past the last whole message is not right.
+fn right_at(t: &[u32; 1024], key: Prepared, messages: &[u8], place: usize) -> bool
+    ensures { λ r. ⌜ r ≡ micRightBy (now (t .entry)) key Downstream (messageAt (now (messages .entry)) place) ⌝ }
+{
+    if messages.len() / MESSAGE_OCTETS <= place {
+        return false;
+    }
+    let at = MESSAGE_OCTETS * place;
+    let end = at + MESSAGE_OCTETS;
+    mic_right(t, key, Direction::Downstream, &messages[at..end])
+}
+
+fn mark_of(right: bool) -> u8
+    ensures { λ r. ⌜ r ≡ markOf right ⌝ }
+{
+    if right { RIGHT } else { NOT_RIGHT }
+}
+
+fn mark(t: &[u32; 1024], key: Prepared, messages: &[u8], place: usize, asked: bool) -> u8
+    ensures { λ r. ⌜ r ≡ cond asked (markOf (micRightBy (now (t .entry)) key Downstream (messageAt (now (messages .entry)) place))) 0 ⌝ }
+{
+    if asked {
+        return mark_of(right_at(t, key, messages, place));
+    }
+    NOT_ASKED
+}
+
+// The downstream messages at the first `count` places, all under one key: a mark for each.
+pub fn rights(
+    t: &[u32; 1024],
+    key: Prepared,
+    messages: &[u8],
+    places: [usize; 8],
+    count: usize,
+) -> [u8; 8]
+    ensures { λ r. ⌜ r ≡ rightsBy (now (t .entry)) key (now (messages .entry)) places count ⌝ }
+{
+    let mut marks = [NOT_ASKED; 8];
+    let mut j: usize = 0;
+    while j < 8 {
+        marks[j] = mark(t, key, messages, places[j], j < count);
+        j += 1;
+    }
+    marks
 }
 
 fn downstream_by_default(address: OnuId, kind: u8) -> bool
