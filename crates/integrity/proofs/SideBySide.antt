@@ -23,15 +23,15 @@ at-tabulate (suc n) f zero h = refl
 at-tabulate (suc n) f (suc j) h = at-tabulate n (λ i. f (suc i)) j (omega arith)
 
 -- past the last whole message there is none
-pub none-there : (t : List ℕ) (key : Prepared) (b : List ℕ) (place : ℕ) → length b / 48 ≤ place → false ≡ micRightBy t key Downstream (messageAt b place)
+pub none-there : (key : Prepared) (b : List ℕ) (place : ℕ) → length b / 48 ≤ place → false ≡ micRightBy key Downstream (messageAt b place)
 unfolding micRightBy
-none-there t key b place h =
+none-there key b place h =
     let short : length (messageAt b place) < 48 = simp (length-take, length-drop) (omega arith) in
     rw (lt-leb 48 (length (messageAt b place)) short)
 
-module _ (t : List ℕ) (key : Prepared) (b places : List ℕ) (count : ℕ) where
+module _ (key : Prepared) (b places : List ℕ) (count : ℕ) where
   abbrev pub said : ℕ → ℕ
-  said j = cond (ltb j count) (markOf (micRightBy t key Downstream (messageAt b (at places j)))) 0
+  said j = cond (ltb j count) (markOf (micRightBy key Downstream (messageAt b (at places j)))) 0
 
   pub one-said
       : (marks : List ℕ) (j v : ℕ) → length marks ≡ 8 → j < 8 → v ≡ said j → ((k : ℕ) → k < j → at marks k ≡ said k)
@@ -41,15 +41,15 @@ module _ (t : List ℕ) (key : Prepared) (b places : List ℕ) (count : ℕ) whe
       (λ k g. getD-set-other marks j k v 0 (λ q. absurd (omega arith)) ∙ f k g)
       (getD-set-same marks j v 0 (omega arith) ∙ e)
 
-  pub all-said : (marks : List ℕ) → length marks ≡ 8 → ((k : ℕ) → k < 8 → at marks k ≡ said k) → marks ≡ rightsBy t key b places count
+  pub all-said : (marks : List ℕ) → length marks ≡ 8 → ((k : ℕ) → k < 8 → at marks k ≡ said k) → marks ≡ rightsBy key b places count
   unfolding rightsBy
   all-said marks l f =
       ext-getD 0 marks (tabulate 8 said) l (λ k h. let g : k < 8 = omega arith in f k g ∙ sym (at-tabulate 8 said k g))
 
   -- for those who ask: what is said of the message at a place
   pub rights-at
-      : (j : ℕ) → j < 8 → j < count → at (rightsBy t key b places count) j ≡ markOf (micRightBy t key Downstream (messageAt b (at places j)))
+      : (j : ℕ) → j < 8 → j < count → at (rightsBy key b places count) j ≡ markOf (micRightBy key Downstream (messageAt b (at places j)))
   unfolding rightsBy
   rights-at j h g =
       at-tabulate 8 said j h
-      ∙ ap (λ (x : Bool). cond x (markOf (micRightBy t key Downstream (messageAt b (at places j)))) 0) (lt-ltb j count g)
+      ∙ ap (λ (x : Bool). cond x (markOf (micRightBy key Downstream (messageAt b (at places j)))) 0) (lt-ltb j count g)

@@ -17,6 +17,6 @@ markOf false = 2
 
 -- of the downstream messages at the first `count` of eight places; none stands past the last whole message, and what is
 -- short is not right
-unfoldable pub rightsBy : List ℕ → Prepared → List ℕ → List ℕ → ℕ → List ℕ
-rightsBy t key b places count =
-    tabulate 8 (λ j. cond (ltb j count) (markOf (micRightBy t key Downstream (messageAt b (at places j)))) 0)
+unfoldable pub rightsBy : Prepared → List ℕ → List ℕ → ℕ → List ℕ
+rightsBy key b places count =
+    tabulate 8 (λ j. cond (ltb j count) (markOf (micRightBy key Downstream (messageAt b (at places j)))) 0)

@@ -4,16 +4,12 @@ ghost use mathlib.Core.List.{_∷_};
 ghost use Prim.Native.Nat.{_≤_};
 ghost use lib.ListN.{length, take};
 ghost use Rattle.aes.specs.Words.{wordsOf};
-ghost use Rattle.aes.specs.MixTable.{mixTable};
-ghost use Rattle.cmac.specs.ByTable.{preparedBy, mac64By};
+ghost use Rattle.cmac.specs.Tags.{preparedBy, mac64By};
 ghost use mathlib.Core.Bool.{cond};
 ghost use Rattle.ploam.specs.Layout.{messageOctets, coveredOctets, messageAt, addressOf, micField};
 ghost use Rattle.integrity.specs.Integrity.{directionCode, covered, same, defaultKey, downstreamByDefault, upstreamByDefault, byDefault, micRightBy, genuineBy};
 ghost use Rattle.integrity.specs.Rights.{markOf, rightsBy};
 ghost use Rattle.integrity.specs.declared.Direction.the-variants.{Downstream};
-use aes::FirstKeys;
-use aes::LastKeys;
-use aes::RoundKeys;
 use aes::Words;
 use cmac::Prepared;
 use ids::OnuId;
@@ -62,19 +58,19 @@ fn with_code(code: u8, m: &[u8]) -> [u8; 41]
     b
 }
 
-fn mic(t: &[u32; 1024], key: Prepared, direction: Direction, m: &[u8]) -> [u8; 8]
+fn mic(key: Prepared, direction: Direction, m: &[u8]) -> [u8; 8]
     requires { ⌜ coveredOctets ≤ length (now m) ⌝ }
-    ensures { λ r. ⌜ r ≡ mac64By (now (t .entry)) key (covered direction (now (m .entry))) ⌝ }
+    ensures { λ r. ⌜ r ≡ mac64By key (covered direction (now (m .entry))) ⌝ }
 {
     let b = with_code(direction_code(direction), m);
-    cmac::mac64(t, key, &b)
+    cmac::mac64(key, &b)
 }
 
 // The integrity field for octets 1 to 40 of a message that is to be sent.
-pub fn sign(t: &[u32; 1024], key: Prepared, direction: Direction, octets: &[u8; 40]) -> [u8; 8]
-    ensures { λ r. ⌜ r ≡ mac64By (now (t .entry)) key (covered direction (now (octets .entry))) ⌝ }
+pub fn sign(key: Prepared, direction: Direction, octets: &[u8; 40]) -> [u8; 8]
+    ensures { λ r. ⌜ r ≡ mac64By key (covered direction (now (octets .entry))) ⌝ }
 {
-    mic(t, key, direction, octets)
+    mic(key, direction, octets)
 }
 
 fn has_mic(m: &[u8], mic: [u8; 8]) -> bool
@@ -91,25 +87,25 @@ fn has_mic(m: &[u8], mic: [u8; 8]) -> bool
     true
 }
 
-pub fn mic_right(t: &[u32; 1024], key: Prepared, direction: Direction, m: &[u8]) -> bool
-    ensures { λ r. ⌜ r ≡ micRightBy (now (t .entry)) key direction (now (m .entry)) ⌝ }
+pub fn mic_right(key: Prepared, direction: Direction, m: &[u8]) -> bool
+    ensures { λ r. ⌜ r ≡ micRightBy key direction (now (m .entry)) ⌝ }
 {
     if m.len() < MESSAGE_OCTETS {
         return false;
     }
-    has_mic(m, mic(t, key, direction, m))
+    has_mic(m, mic(key, direction, m))
 }
 
 // What is past the last whole message is not right.
-fn right_at(t: &[u32; 1024], key: Prepared, messages: &[u8], place: usize) -> bool
-    ensures { λ r. ⌜ r ≡ micRightBy (now (t .entry)) key Downstream (messageAt (now (messages .entry)) place) ⌝ }
+fn right_at(key: Prepared, messages: &[u8], place: usize) -> bool
+    ensures { λ r. ⌜ r ≡ micRightBy key Downstream (messageAt (now (messages .entry)) place) ⌝ }
 {
     if messages.len() / MESSAGE_OCTETS <= place {
         return false;
     }
     let at = MESSAGE_OCTETS * place;
     let end = at + MESSAGE_OCTETS;
-    mic_right(t, key, Direction::Downstream, &messages[at..end])
+    mic_right(key, Direction::Downstream, &messages[at..end])
 }
 
 fn mark_of(right: bool) -> u8
@@ -118,29 +114,23 @@ fn mark_of(right: bool) -> u8
     if right { RIGHT } else { NOT_RIGHT }
 }
 
-fn mark(t: &[u32; 1024], key: Prepared, messages: &[u8], place: usize, asked: bool) -> u8
-    ensures { λ r. ⌜ r ≡ cond asked (markOf (micRightBy (now (t .entry)) key Downstream (messageAt (now (messages .entry)) place))) 0 ⌝ }
+fn mark(key: Prepared, messages: &[u8], place: usize, asked: bool) -> u8
+    ensures { λ r. ⌜ r ≡ cond asked (markOf (micRightBy key Downstream (messageAt (now (messages .entry)) place))) 0 ⌝ }
 {
     if asked {
-        return mark_of(right_at(t, key, messages, place));
+        return mark_of(right_at(key, messages, place));
     }
     NOT_ASKED
 }
 
 // The downstream messages at the first `count` places, all under one key: a mark for each.
-pub fn rights(
-    t: &[u32; 1024],
-    key: Prepared,
-    messages: &[u8],
-    places: [usize; 8],
-    count: usize,
-) -> [u8; 8]
-    ensures { λ r. ⌜ r ≡ rightsBy (now (t .entry)) key (now (messages .entry)) places count ⌝ }
+pub fn rights(key: Prepared, messages: &[u8], places: [usize; 8], count: usize) -> [u8; 8]
+    ensures { λ r. ⌜ r ≡ rightsBy key (now (messages .entry)) places count ⌝ }
 {
     let mut marks = [NOT_ASKED; 8];
     let mut j: usize = 0;
     while j < 8 {
-        marks[j] = mark(t, key, messages, places[j], j < count);
+        marks[j] = mark(key, messages, places[j], j < count);
         j += 1;
     }
     marks
@@ -185,95 +175,29 @@ fn address(m: &[u8]) -> OnuId
 
 // Whether a downstream message's integrity field is right under its own key: the default key (`usual`, prepared) or the
 // installed one. Where none is installed, the caller gives the default for both.
-pub fn genuine(t: &[u32; 1024], usual: Prepared, installed: Prepared, m: &[u8]) -> bool
-    ensures { λ r. ⌜ r ≡ genuineBy (now (t .entry)) usual installed (now (m .entry)) ⌝ }
+pub fn genuine(usual: Prepared, installed: Prepared, m: &[u8]) -> bool
+    ensures { λ r. ⌜ r ≡ genuineBy usual installed (now (m .entry)) ⌝ }
 {
     if m.len() < MESSAGE_OCTETS {
         return false;
     }
     if by_default(Direction::Downstream, address(m), m[2]) {
-        mic_right(t, usual, Direction::Downstream, m)
+        mic_right(usual, Direction::Downstream, m)
     } else {
-        mic_right(t, installed, Direction::Downstream, m)
+        mic_right(installed, Direction::Downstream, m)
     }
 }
 
-// The default key of 15.8.1, sixteen octets 0x55, prepared. That these are its words is proved, not trusted.
+// The default key of 15.8.1, sixteen octets 0x55, prepared. That these are its subkeys is proved, not trusted.
 pub fn default_key() -> Prepared
-    ensures { λ r. ⌜ r ≡ preparedBy mixTable (wordsOf defaultKey) ⌝ }
+    ensures { λ r. ⌜ r ≡ preparedBy (wordsOf defaultKey) ⌝ }
 {
     Prepared {
-        keys: RoundKeys {
-            first: FirstKeys {
-                k0: Words {
-                    a: 0x55555555,
-                    b: 0x55555555,
-                    c: 0x55555555,
-                    d: 0x55555555,
-                },
-                k1: Words {
-                    a: 0xa8a9a9a9,
-                    b: 0xfdfcfcfc,
-                    c: 0xa8a9a9a9,
-                    d: 0xfdfcfcfc,
-                },
-                k2: Words {
-                    a: 0x1a1919fd,
-                    b: 0xe7e5e501,
-                    c: 0x4f4c4ca8,
-                    d: 0xb2b0b054,
-                },
-                k3: Words {
-                    a: 0xf9fe39ca,
-                    b: 0x1e1bdccb,
-                    c: 0x51579063,
-                    d: 0xe3e72037,
-                },
-                k4: Words {
-                    a: 0x6549a3db,
-                    b: 0x7b527f10,
-                    c: 0x2a05ef73,
-                    d: 0xc9e2cf44,
-                },
-                k5: Words {
-                    a: 0xedc3b806,
-                    b: 0x9691c716,
-                    c: 0xbc942865,
-                    d: 0x7576e721,
-                },
-            },
-            last: LastKeys {
-                k6: Words {
-                    a: 0xf557459b,
-                    b: 0x63c6828d,
-                    c: 0xdf52aae8,
-                    d: 0xaa244dc9,
-                },
-                k7: Words {
-                    a: 0x83b49837,
-                    b: 0xe0721aba,
-                    c: 0x3f20b052,
-                    d: 0x9504fd9b,
-                },
-                k8: Words {
-                    a: 0xf1e08c1d,
-                    b: 0x119296a7,
-                    c: 0x2eb226f5,
-                    d: 0xbbb6db6e,
-                },
-                k9: Words {
-                    a: 0xa45913f7,
-                    b: 0xb5cb8550,
-                    c: 0x9b79a3a5,
-                    d: 0x20cf78cb,
-                },
-                k10: Words {
-                    a: 0x18e50c40,
-                    b: 0xad2e8910,
-                    c: 0x36572ab5,
-                    d: 0x1698527e,
-                },
-            },
+        key: Words {
+            a: 0x55555555,
+            b: 0x55555555,
+            c: 0x55555555,
+            d: 0x55555555,
         },
         whole: Words {
             a: 0x90919c63,

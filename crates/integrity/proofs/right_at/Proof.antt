@@ -13,7 +13,7 @@ use Rattle.integrity.proofs.right_at.Statement.{statement}
 use Rattle.integrity.proofs.right_at.Tie as tie
 
 returns : tie.Need-returns
-returns c = none-there (now (c .before .before .args .t)) (c .before .before .args .key) (now (c .before .before .args .messages)) (c .before .before .args .place) (c .if1 .taken)
+returns c = none-there (c .before .before .args .key) (now (c .before .before .args .messages)) (c .before .before .args .place) (c .if1 .taken)
 
 mul-at : tie.Need-mul-at
 mul-at c = search needs
@@ -37,7 +37,7 @@ returns-2 : tie.Need-returns-2
 returns-2 c =
     let a = c .before .before .before .before .args in
     let e : 48 * a .place + 48 - 48 * a .place ≡ 48 = omega arith in
-    c .mic-right .ensures ∙ ap (λ (k : ℕ). micRightBy (now (a .t)) (a .key) Downstream (take k (drop (48 * a .place) (now (a .messages))))) e
+    c .mic-right .ensures ∙ ap (λ (k : ℕ). micRightBy (a .key) Downstream (take k (drop (48 * a .place) (now (a .messages))))) e
 
 pub right-at-spec : {M : Type 1} → statement M
 right-at-spec =

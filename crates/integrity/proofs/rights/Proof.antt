@@ -12,10 +12,10 @@ use Rattle.integrity.proofs.rights.Statement.{statement}
 use Rattle.integrity.proofs.rights.Tie as tie
 
 abbrev Inv-loop : tie.InvT-loop
-Inv-loop t key messages count places marks₀ j₀ marks j = (j ≤ 8) × (length marks ≡ 8) × ((k : ℕ) → k < j → at marks k ≡ said t key messages places count k)
+Inv-loop key messages count places marks₀ j₀ marks j = (j ≤ 8) × (length marks ≡ 8) × ((k : ℕ) → k < j → at marks k ≡ said key messages places count k)
 
 abbrev μ-loop : tie.MeasureT-loop
-μ-loop t key messages count places marks₀ j₀ marks j = 8 - j
+μ-loop key messages count places marks₀ j₀ marks j = 8 - j
 
 loop-holds : tie.Need-loop-holds Inv-loop μ-loop
 loop-holds c = (omega arith, search needs, λ k h. absurd (omega arith))
@@ -42,13 +42,13 @@ loop-again : tie.Need-loop-again Inv-loop μ-loop
 loop-again c =
     let a = c .before .before .before .before .args in
     let l = c .before .before .loop in
-    (omega arith, simp length-set (l .inv .1), one-said (now (a .t)) (a .key) (now (a .messages)) (a .t4) (a .count) (l .marks) (l .j) _ (l .inv .1) (c .before .loop-test .taken) (c .mark .ensures) (l .inv .2))
+    (omega arith, simp length-set (l .inv .1), one-said (a .key) (now (a .messages)) (a .t3) (a .count) (l .marks) (l .j) _ (l .inv .1) (c .before .loop-test .taken) (c .mark .ensures) (l .inv .2))
 
 returns : tie.Need-returns Inv-loop μ-loop
 returns c =
     let a = c .before .before .before .args in
     let l = c .before .loop in
-    all-said (now (a .t)) (a .key) (now (a .messages)) (a .t4) (a .count) (l .marks) (l .inv .1) (λ k h. l .inv .2 k (omega arith))
+    all-said (a .key) (now (a .messages)) (a .t3) (a .count) (l .marks) (l .inv .1) (λ k h. l .inv .2 k (omega arith))
 
 pub rights-spec : {M : Type 1} → statement M
 rights-spec =
