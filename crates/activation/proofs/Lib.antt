@@ -3,3 +3,4 @@ pub mod Asking
 pub mod PassingOver
 pub mod Apart
 pub mod Verdicts
+pub mod Considering

@@ -2,10 +2,13 @@
 -- Assumes nothing.
 use Prim.Native.Nat.{ℕ, zero, suc, _+_, _/_}
 use mathlib.Core.Path.{_≡_}
-use mathlib.Core.Bool.{Bool, cond}
+use mathlib.Core.Bool.{Bool, true, false}
 use mathlib.Core.List.{List, [], _∷_}
 use lib.ListN.{length}
 use Rattle.cmac.specs.declared.Prepared.{Prepared}
+use Rattle.cmac.specs.ByTable.{Ready}
+use Rattle.link.specs.declared.Key.{Key}
+use Rattle.link.specs.Limits.{keyOctets}
 use Rattle.ploam.specs.Layout.{messageOctets, messageAt}
 use Rattle.ploam.specs.Reading.{received}
 use Rattle.integrity.specs.Integrity.{installedKey, genuine, genuineBy}
@@ -44,11 +47,8 @@ AllReceived s b r = r ≡ receiveAll s (messagesIn b)
 
 -- ---- the same by a lent table and prepared keys, for every table and prepared key
 
-unfoldable pub genuineNow : List ℕ → Prepared → Prepared → Bool → List ℕ → Bool
-genuineNow t usual installed held m = genuineBy t usual (cond held installed usual) m
-
 unfoldable pub receivedBy : List ℕ → Prepared → Prepared → Station → List ℕ → Station
-receivedBy t usual installed s m = acting s (genuineNow t usual installed (s .link .key .held) m) (received m)
+receivedBy t usual installed s m = acting s (genuineBy t usual installed m) (received m)
 
 abbrev pub receivedEachBy : List ℕ → Prepared → Prepared → Station → List (List ℕ) → Station
 receivedEachBy t usual installed s [] = s
@@ -56,3 +56,8 @@ receivedEachBy t usual installed s (m ∷ l) = receivedEachBy t usual installed 
 
 abbrev pub receivedAllBy : List ℕ → Prepared → Prepared → Station → List ℕ → Station
 receivedAllBy t usual installed s b = receivedEachBy t usual installed s (messagesIn b)
+
+-- what is given for the installed key: the one held, prepared, or the default
+pub record Installed (t : List ℕ) (usual : Prepared) (key : Key) (r : Prepared) : Type 0 where
+  pub own : key .held ≡ true → (Ready t (key .octets) r) × (length (key .octets) ≡ keyOctets)
+  pub none : key .held ≡ false → r ≡ usual
