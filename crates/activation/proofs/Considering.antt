@@ -37,33 +37,33 @@ unfolding applied
 nothing s = refl
 
 -- what is read of the message's octets, lent as a part
-module _ (t : List ℕ) (usual installed : Prepared) (s : Station) (b : List ℕ) (i : ℕ) (r : Received)
+module _ (usual installed : Prepared) (s : Station) (b : List ℕ) (i : ℕ) (r : Received)
     (er : r ≡ received (take (48 * i + 48 - 48 * i) (drop (48 * i) b))) where
   read-there : r ≡ received (messageAt b i)
   read-there =
       let e : 48 * i + 48 - 48 * i ≡ 48 = omega arith in
       er ∙ ap (λ (k : ℕ). received (take k (drop (48 * i) b))) e
 
-  pub short-considered : (e : Effect) → r ≡ Short → e ≡ ignored → applied s e ≡ receivedBy t usual installed s (messageAt b i)
+  pub short-considered : (e : Effect) → r ≡ Short → e ≡ ignored → applied s e ≡ receivedBy usual installed s (messageAt b i)
   unfolding receivedBy
   short-considered e h ee = rw (ee, sym read-there ∙ h) (nothing s)
 
   module _ (m : Message) (e : Effect) (em : r ≡ Whole m) (ee : e ≡ decision s m) where
-    by-verdict : (x : Effect) (g : Bool) → genuineBy t usual installed (messageAt b i) ≡ g → applied s x ≡ act s g m → applied s x ≡ receivedBy t usual installed s (messageAt b i)
+    by-verdict : (x : Effect) (g : Bool) → genuineBy usual installed (messageAt b i) ≡ g → applied s x ≡ act s g m → applied s x ≡ receivedBy usual installed s (messageAt b i)
     unfolding receivedBy
     by-verdict x g eg h = rw (sym read-there ∙ em, eg) h
 
-    pub none-considered : isIgnored e ≡ true → applied s e ≡ receivedBy t usual installed s (messageAt b i)
+    pub none-considered : isIgnored e ≡ true → applied s e ≡ receivedBy usual installed s (messageAt b i)
     none-considered h =
-        let g = genuineBy t usual installed (messageAt b i) in
+        let g = genuineBy usual installed (messageAt b i) in
         let n : isIgnored (decision s m) ≡ true = ap isIgnored (sym ee) ∙ h in
         by-verdict e g refl (ap (applied s) ee ∙ act-genuine s m ∙ act-ignored s true m n ∙ sym (act-ignored s g m n))
 
     pub right-considered
-        : (v : ℕ) → v ≡ verdictAt t usual installed b i → v ≡ 1 → applied s e ≡ receivedBy t usual installed s (messageAt b i)
+        : (v : ℕ) → v ≡ verdictAt usual installed b i → v ≡ 1 → applied s e ≡ receivedBy usual installed s (messageAt b i)
     right-considered v ev h = by-verdict e true (right-is _ (sym ev ∙ h)) (ap (applied s) ee ∙ act-genuine s m)
 
     pub wrong-considered
-        : (v : ℕ) (x : Effect) → v ≡ verdictAt t usual installed b i → (v ≡ 1 → ⊥) → x ≡ ignored → applied s x ≡ receivedBy t usual installed s (messageAt b i)
+        : (v : ℕ) (x : Effect) → v ≡ verdictAt usual installed b i → (v ≡ 1 → ⊥) → x ≡ ignored → applied s x ≡ receivedBy usual installed s (messageAt b i)
     wrong-considered v x ev h ex =
         by-verdict x false (right-not _ (λ q. h (ev ∙ q))) (ap (applied s) ex ∙ nothing s ∙ sym (act-forged s m))

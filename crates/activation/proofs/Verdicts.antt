@@ -146,23 +146,23 @@ module _ (verdict : ℕ → ℕ) (base : ℕ) (places found : List ℕ) (within 
 
 -- ---- what is found for a group under its key is the verdict of each
 
-module _ (t : List ℕ) (usual installed key : Prepared) (b : List ℕ) (isUsual : Bool) (ek : key ≡ cond isUsual usual installed) where
-  own-key : (m : List ℕ) → byUsual m ≡ isUsual → micRightBy t key Downstream m ≡ genuineBy t usual installed m
+module _ (usual installed key : Prepared) (b : List ℕ) (isUsual : Bool) (ek : key ≡ cond isUsual usual installed) where
+  own-key : (m : List ℕ) → byUsual m ≡ isUsual → micRightBy key Downstream m ≡ genuineBy usual installed m
   unfolding genuineBy
   own-key m e =
-      ap (λ (k : Prepared). micRightBy t k Downstream m) ek
-      ∙ ap (λ (x : Bool). micRightBy t (cond x usual installed) Downstream m) (sym e)
+      ap (λ (k : Prepared). micRightBy k Downstream m) ek
+      ∙ ap (λ (x : Bool). micRightBy (cond x usual installed) Downstream m) (sym e)
 
   pub checked
-      : (base i : ℕ) (g : Group) (found marks marks′ : List ℕ) → Gathered isUsual b base i g → found ≡ rightsBy t key b (g .places) (g .count)
-      → marks′ ≡ entered base (g .places) found 0 (g .count) marks → Known (verdictAt t usual installed b) base marks
-      → Told (verdictAt t usual installed b) base i marks′
+      : (base i : ℕ) (g : Group) (found marks marks′ : List ℕ) → Gathered isUsual b base i g → found ≡ rightsBy key b (g .places) (g .count)
+      → marks′ ≡ entered base (g .places) found 0 (g .count) marks → Known (verdictAt usual installed b) base marks
+      → Told (verdictAt usual installed b) base i marks′
   checked base i g found marks marks′ h ef em k =
-      let verdict = verdictAt t usual installed b in
+      let verdict = verdictAt usual installed b in
       let one : (j : ℕ) → j < g .count → at found j ≡ verdict (at (g .places) j) = λ j c.
       let m : g .count ≤ 8 = h .most in
       let n : j < 8 = omega arith in
-      ap (λ (l : List ℕ). at l j) ef ∙ rights-at t key b (g .places) (g .count) j n c ∙ ap markOf (own-key (messageAt b (at (g .places) j)) (h .alike j n))
+      ap (λ (l : List ℕ). at l j) ef ∙ rights-at key b (g .places) (g .count) j n c ∙ ap markOf (own-key (messageAt b (at (g .places) j)) (h .alike j n))
       in
       let told = told-after verdict base (g .places) found (h .within) (g .count) marks (h .some) (h .most) one (k .whole) in
       rw em

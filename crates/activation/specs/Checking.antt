@@ -22,8 +22,8 @@ abbrev pub sideBySide : ℕ
 sideBySide = 8
 
 -- the mark of message p
-abbrev pub verdictAt : List ℕ → Prepared → Prepared → List ℕ → ℕ → ℕ
-verdictAt t usual installed b p = markOf (genuineBy t usual installed (messageAt b p))
+abbrev pub verdictAt : Prepared → Prepared → List ℕ → ℕ → ℕ
+verdictAt usual installed b p = markOf (genuineBy usual installed (messageAt b p))
 
 -- message p is checked by the default key
 abbrev pub byUsual : List ℕ → Bool

@@ -6,7 +6,7 @@ use mathlib.Core.Bool.{Bool, true, false}
 use mathlib.Core.List.{List, [], _∷_}
 use lib.ListN.{length}
 use Rattle.cmac.specs.declared.Prepared.{Prepared}
-use Rattle.cmac.specs.ByTable.{Ready}
+use Rattle.cmac.specs.Tags.{Ready}
 use Rattle.link.specs.declared.Key.{Key}
 use Rattle.link.specs.Limits.{keyOctets}
 use Rattle.ploam.specs.Layout.{messageOctets, messageAt}
@@ -45,19 +45,19 @@ actAll isGenuine s (m ∷ l) = actAll isGenuine (acting s (isGenuine m) (receive
 abbrev pub AllReceived : Station → List ℕ → Station → Type 0
 AllReceived s b r = r ≡ receiveAll s (messagesIn b)
 
--- ---- the same by a lent table and prepared keys, for every table and prepared key
+-- ---- the same by prepared keys, for every prepared key
 
-unfoldable pub receivedBy : List ℕ → Prepared → Prepared → Station → List ℕ → Station
-receivedBy t usual installed s m = acting s (genuineBy t usual installed m) (received m)
+unfoldable pub receivedBy : Prepared → Prepared → Station → List ℕ → Station
+receivedBy usual installed s m = acting s (genuineBy usual installed m) (received m)
 
-abbrev pub receivedEachBy : List ℕ → Prepared → Prepared → Station → List (List ℕ) → Station
-receivedEachBy t usual installed s [] = s
-receivedEachBy t usual installed s (m ∷ l) = receivedEachBy t usual installed (receivedBy t usual installed s m) l
+abbrev pub receivedEachBy : Prepared → Prepared → Station → List (List ℕ) → Station
+receivedEachBy usual installed s [] = s
+receivedEachBy usual installed s (m ∷ l) = receivedEachBy usual installed (receivedBy usual installed s m) l
 
-abbrev pub receivedAllBy : List ℕ → Prepared → Prepared → Station → List ℕ → Station
-receivedAllBy t usual installed s b = receivedEachBy t usual installed s (messagesIn b)
+abbrev pub receivedAllBy : Prepared → Prepared → Station → List ℕ → Station
+receivedAllBy usual installed s b = receivedEachBy usual installed s (messagesIn b)
 
 -- what is given for the installed key: the one held, prepared, or the default
-pub record Installed (t : List ℕ) (usual : Prepared) (key : Key) (r : Prepared) : Type 0 where
-  pub own : key .held ≡ true → (Ready t (key .octets) r) × (length (key .octets) ≡ keyOctets)
+pub record Installed (usual : Prepared) (key : Key) (r : Prepared) : Type 0 where
+  pub own : key .held ≡ true → (Ready (key .octets) r) × (length (key .octets) ≡ keyOctets)
   pub none : key .held ≡ false → r ≡ usual

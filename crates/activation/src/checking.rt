@@ -113,7 +113,6 @@ fn chosen(by_usual: bool, usual: Prepared, installed: Prepared) -> Prepared
 
 // Message i, of the window, is checked with others of its key.
 fn check(
-    t: &[u32; 1024],
     usual: Prepared,
     installed: Prepared,
     onu: OnuId,
@@ -123,8 +122,8 @@ fn check(
     base: usize,
     marks: &mut [u8; 64],
 )
-    requires { ⌜ (Askable (verdictAt (now t) usual installed (now messages)) (length (now messages) / messageOctets) base i (now marks)) × (i < base + 64) ⌝ }
-    ensures { λ _. ⌜ Told (verdictAt (now (t .entry)) usual installed (now (messages .entry))) base i (now (marks .exit)) ⌝ }
+    requires { ⌜ (Askable (verdictAt usual installed (now messages)) (length (now messages) / messageOctets) base i (now marks)) × (i < base + 64) ⌝ }
+    ensures { λ _. ⌜ Told (verdictAt usual installed (now (messages .entry))) base i (now (marks .exit)) ⌝ }
 {
     let at = MESSAGE_OCTETS * i;
     let end = at + MESSAGE_OCTETS;
@@ -132,7 +131,7 @@ fn check(
     let group = gather(onu, full, is_usual, messages, marks, base, i);
     let places = group.places;
     let key = chosen(is_usual, usual, installed);
-    let found = integrity::rights(t, key, messages, places, group.count);
+    let found = integrity::rights(key, messages, places, group.count);
     enter(places, group.count, found, base, marks);
 }
 
@@ -150,7 +149,6 @@ fn window(i: usize, base: usize, marks: &mut [u8; 64]) -> usize
 
 // The verdict of message i becomes known, if it isn't. Answers where the window of marks begins.
 pub(crate) fn know(
-    t: &[u32; 1024],
     usual: Prepared,
     installed: Prepared,
     onu: OnuId,
@@ -160,12 +158,12 @@ pub(crate) fn know(
     base: usize,
     marks: &mut [u8; 64],
 ) -> usize
-    requires { ⌜ Askable (verdictAt (now t) usual installed (now messages)) (length (now messages) / messageOctets) base i (now marks) ⌝ }
-    ensures { λ r. ⌜ Told (verdictAt (now (t .entry)) usual installed (now (messages .entry))) r i (now (marks .exit)) ⌝ }
+    requires { ⌜ Askable (verdictAt usual installed (now messages)) (length (now messages) / messageOctets) base i (now marks) ⌝ }
+    ensures { λ r. ⌜ Told (verdictAt usual installed (now (messages .entry))) r i (now (marks .exit)) ⌝ }
 {
     let start = window(i, base, marks);
     if marks[i - start] == NOT_ASKED {
-        check(t, usual, installed, onu, full, messages, i, start, marks);
+        check(usual, installed, onu, full, messages, i, start, marks);
     }
     start
 }

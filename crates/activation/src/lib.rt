@@ -3,7 +3,7 @@ ghost use mathlib.Core.Bool.{Bool};
 ghost use mathlib.Core.Path.{_≡_};
 ghost use Prim.Native.Nat.{_-_, _/_, _≤_};
 ghost use lib.ListN.{length};
-ghost use Rattle.cmac.specs.ByTable.{Ready};
+ghost use Rattle.cmac.specs.Tags.{Ready};
 ghost use Rattle.link.specs.Limits.{keyOctets};
 ghost use Rattle.effects.specs.Changes.{applied};
 ghost use Rattle.activation.specs.Asking.{askedOf};
@@ -32,7 +32,6 @@ pub struct Outcome {
 
 // Message i. The integrity check is made last: it costs most, and a failed test of any kind ignores the message.
 fn considered(
-    t: &[u32; 1024],
     usual: Prepared,
     installed: Prepared,
     s: Station,
@@ -41,8 +40,8 @@ fn considered(
     base: usize,
     marks: &mut [u8; 64],
 ) -> Outcome
-    requires { ⌜ Askable (verdictAt (now t) usual installed (now messages)) (length (now messages) / messageOctets) base i (now marks) ⌝ }
-    ensures { λ r. ⌜ (applied s (r .effect) ≡ receivedBy (now (t .entry)) usual installed s (messageAt (now (messages .entry)) i)) × (r .base ≤ i) × (Known (verdictAt (now (t .entry)) usual installed (now (messages .entry))) (r .base) (now (marks .exit))) ⌝ }
+    requires { ⌜ Askable (verdictAt usual installed (now messages)) (length (now messages) / messageOctets) base i (now marks) ⌝ }
+    ensures { λ r. ⌜ (applied s (r .effect) ≡ receivedBy usual installed s (messageAt (now (messages .entry)) i)) × (r .base ≤ i) × (Known (verdictAt usual installed (now (messages .entry))) (r .base) (now (marks .exit))) ⌝ }
 {
     let at = MESSAGE_OCTETS * i;
     let end = at + MESSAGE_OCTETS;
@@ -59,7 +58,6 @@ fn considered(
             let onu = link.onu;
             let owed = link.owed;
             let start = checking::know(
-                t,
                 usual,
                 installed,
                 onu,
@@ -116,14 +114,13 @@ fn asked_by(e: Effect) -> Asked
 
 // From the message `first` on.
 fn receive_each(
-    t: &[u32; 1024],
     usual: Prepared,
     installed: Prepared,
     s: Station,
     messages: &[u8],
     first: usize,
 ) -> Station
-    ensures { λ r. ⌜ r ≡ receivedEachBy (now (t .entry)) usual installed s (messagesFrom (now (messages .entry)) first (length (now (messages .entry)) / messageOctets - first)) ⌝ }
+    ensures { λ r. ⌜ r ≡ receivedEachBy usual installed s (messagesFrom (now (messages .entry)) first (length (now (messages .entry)) / messageOctets - first)) ⌝ }
 {
     let n = messages.len() / MESSAGE_OCTETS;
     let mut next = s;
@@ -131,7 +128,7 @@ fn receive_each(
     let mut base = first;
     let mut marks = [integrity::NOT_ASKED; 64];
     while i < n {
-        let c = considered(t, usual, installed, next, messages, i, base, &mut marks);
+        let c = considered(usual, installed, next, messages, i, base, &mut marks);
         base = c.base;
         let e = c.effect;
         match asked_by(e) {
@@ -151,25 +148,24 @@ fn receive_each(
     next
 }
 
-fn prepared(t: &[u32; 1024], octets: [u8; 16]) -> Prepared
-    ensures { λ r. ⌜ (Ready (now (t .entry)) octets r) × (length octets ≡ keyOctets) ⌝ }
+fn prepared(octets: [u8; 16]) -> Prepared
+    ensures { λ r. ⌜ (Ready octets r) × (length octets ≡ keyOctets) ⌝ }
 {
-    cmac::prepare(t, octets)
+    cmac::prepare(octets)
 }
 
 // The key held, or the default where none is.
-fn installed_key(t: &[u32; 1024], usual: Prepared, key: Key) -> Prepared
-    ensures { λ r. ⌜ Installed (now (t .entry)) usual key r ⌝ }
+fn installed_key(usual: Prepared, key: Key) -> Prepared
+    ensures { λ r. ⌜ Installed usual key r ⌝ }
 {
     let octets = key.octets;
     if key.held {
-        return prepared(t, octets);
+        return prepared(octets);
     }
     usual
 }
 
-// What follows the last whole message is not looked at. No key is prepared, and the table of AES not named, where no message
-// may act.
+// What follows the last whole message is not looked at. No key is prepared where no message may act.
 pub fn receive_all(s: Station, messages: &[u8]) -> Station
     ensures { λ r. ⌜ AllReceived s (now (messages .entry)) r ⌝ }
 {
@@ -180,9 +176,8 @@ pub fn receive_all(s: Station, messages: &[u8]) -> Station
     if messages.len() / MESSAGE_OCTETS <= first {
         return s;
     }
-    let t = aes::mix::table();
     let usual = integrity::default_key();
     let key = link.key;
-    let installed = installed_key(&t, usual, key);
-    receive_each(&t, usual, installed, s, messages, first)
+    let installed = installed_key(usual, key);
+    receive_each(usual, installed, s, messages, first)
 }

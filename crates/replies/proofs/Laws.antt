@@ -8,8 +8,7 @@ use native.Mathlib.Omega.{arith}
 use lib.ListN.{length, take, drop}
 use lib.Seq.{drop-drop}
 use Rattle.aes.specs.Words.{wordsOf, Octets}
-use Rattle.aes.specs.MixTable.{mixTable}
-use Rattle.cmac.specs.ByTable.{preparedBy}
+use Rattle.cmac.specs.Tags.{preparedBy}
 use Rattle.cmac.specs.declared.Prepared.{Prepared}
 use Rattle.integrity.specs.Integrity.{defaultKey, installedKey}
 use Rattle.integrity.proofs.Keys.{default-octets}
@@ -26,15 +25,15 @@ use Rattle.replies.specs.Replies.{keyOf, inPlace, wrote, repliesFrom, Ke
 
 -- what the prepared keys write is what the station's key would
 pub written-true
-    : (t : List ℕ) (usual installed : Prepared) (k : Key) (m : UpstreamMessage) (id target : List ℕ) (left : Outcome)
-    → Keyed t usual installed k → Leaves (writtenBy t usual installed m id target) (upstreamOctets m id) left
+    : (usual installed : Prepared) (k : Key) (m : UpstreamMessage) (id target : List ℕ) (left : Outcome)
+    → Keyed usual installed k → Leaves (writtenBy usual installed m id target) (upstreamOctets m id) left
     → left .target ≡ written (keyOf k) m id target .target
-written-true t usual installed k m id target left h w =
+written-true usual installed k m id target left h w =
     ap (λ (o : Outcome). o .target)
     (w .made
     ∙ ap (λ (x : List ℕ). writtenBy x usual installed m id target) (h .table)
-    ∙ ap (λ (u : Prepared). writtenBy mixTable u installed m id target) (h .default)
-    ∙ ap (λ (u : Prepared). writtenBy mixTable (preparedBy mixTable (wordsOf defaultKey)) u m id target) (h .own)
+    ∙ ap (λ (u : Prepared). writtenBy u installed m id target) (h .default)
+    ∙ ap (λ (u : Prepared). writtenBy (preparedBy (wordsOf defaultKey)) u m id target) (h .own)
     ∙ written-by-mix-table (keyOf k) m id target (h .octets) (h .sixteen) (w .known))
 
 -- a reply leaves the key
@@ -46,9 +45,9 @@ after-key Operation s = refl
 after-key (Intermittent left) s = refl
 after-key EmergencyStop s = refl
 
-pub keyed-after : (t : List ℕ) (u p : Prepared) (s : Station) → Keyed t u p (s .link .key) → Keyed t u p (afterReply s .link .key)
+pub keyed-after : (u p : Prepared) (s : Station) → Keyed u p (s .link .key) → Keyed u p (afterReply s .link .key)
 unfolding afterReply
-keyed-after t u p s h = rw (after-key (s .activation) s) h
+keyed-after u p s h = rw (after-key (s .activation) s) h
 
 pub replies-turn
     : (s : Station) (delay : ℕ) (b : List ℕ) (n i : ℕ) (r : Station) (c : List ℕ) → i < n → r ≡ afterReply s → c ≡ inPlace s delay b i
@@ -61,15 +60,15 @@ replies-end s delay b n i h = let e : n - i ≡ 0 = omega arith in rw e
 
 -- the prepared keys are those of a station that holds a key, and of one that holds none
 pub keyed-held
-    : (t : List ℕ) (u p : Prepared) (k : Key) → t ≡ mixTable → k .held ≡ true → u ≡ preparedBy mixTable (wordsOf defaultKey)
-    → p ≡ preparedBy t (wordsOf (k .octets)) → Octets (k .octets) → length (k .octets) ≡ 16 → Keyed t u p k
-keyed-held t u p k e h a b o l =
-    let b′ : p ≡ preparedBy mixTable (wordsOf (k .octets)) = b ∙ ap (λ (x : List ℕ). preparedBy x (wordsOf (k .octets))) e in
+    : (u p : Prepared) (k : Key) → t ≡ mixTable → k .held ≡ true → u ≡ preparedBy (wordsOf defaultKey)
+    → p ≡ preparedBy (wordsOf (k .octets)) → Octets (k .octets) → length (k .octets) ≡ 16 → Keyed u p k
+keyed-held u p k e h a b o l =
+    let b′ : p ≡ preparedBy (wordsOf (k .octets)) = b ∙ ap (λ (x : List ℕ). preparedBy x (wordsOf (k .octets))) e in
     record { table = e; default = a; own = rw h b′; octets = rw h o; sixteen = rw h l }
 
 pub keyed-none
-    : (t : List ℕ) (u : Prepared) (k : Key) → t ≡ mixTable → k .held ≡ false → u ≡ preparedBy mixTable (wordsOf defaultKey) → Keyed t u u k
-keyed-none t u k e h a = record { table = e; default = a; own = rw h a; octets = rw h default-octets; sixteen = rw h }
+    : (u : Prepared) (k : Key) → t ≡ mixTable → k .held ≡ false → u ≡ preparedBy (wordsOf defaultKey) → Keyed u u k
+keyed-none u k e h a = record { table = e; default = a; own = rw h a; octets = rw h default-octets; sixteen = rw h }
 
 -- as many as there is room for
 pub room-for : (n k b : ℕ) → k ≡ min n (b / 48) → b < 2 ^ 64 → (48 * k ≤ b) × (k < 2 ^ 63)

@@ -38,7 +38,7 @@ is-ignored-requires c κs = search needs
 returns : tie.Need-returns
 returns c =
     let a = c .before .before .before .before .before .before .before .before .before .args in
-    (none-considered (now (a .t)) (a .usual) (a .installed) (a .s) (now (a .messages)) (a .i) _ (c .before .before .before .before .before .before .read .ensures) _ _ (c .before .before .before .before .message .given .1) (c .before .before .decide .ensures) (sym (c .before .is-ignored .ensures) ∙ c .if1 .taken), c .before .before .before .before .before .before .before .before .before .pre .past, c .before .before .before .before .before .before .before .before .before .pre .known)
+    (none-considered (a .usual) (a .installed) (a .s) (now (a .messages)) (a .i) _ (c .before .before .before .before .before .before .read .ensures) _ _ (c .before .before .before .before .message .given .1) (c .before .before .decide .ensures) (sym (c .before .is-ignored .ensures) ∙ c .if1 .taken), c .before .before .before .before .before .before .before .before .before .pre .past, c .before .before .before .before .before .before .before .before .before .pre .known)
 
 is-full-requires : tie.Need-is-full-requires
 is-full-requires c κs = search needs
@@ -56,7 +56,7 @@ returns-2 : tie.Need-returns-2
 returns-2 c =
     let a = c .before .before .before .before .before .before .before .before .before .before .before .before .before .before .before .before .before .args in
     let k = c .before .before .know .ensures in
-    (right-considered (now (a .t)) (a .usual) (a .installed) (a .s) (now (a .messages)) (a .i) _ (c .before .before .before .before .before .before .before .before .before .before .before .before .before .before .read .ensures) _ _ (c .before .before .before .before .before .before .before .before .before .before .before .before .message .given .1) (c .before .before .before .before .before .before .before .before .before .before .decide .ensures) _ (k .told) (c .if2 .taken), k .within .0, k .known)
+    (right-considered (a .usual) (a .installed) (a .s) (now (a .messages)) (a .i) _ (c .before .before .before .before .before .before .before .before .before .before .before .before .before .before .read .ensures) _ _ (c .before .before .before .before .before .before .before .before .before .before .before .before .message .given .1) (c .before .before .before .before .before .before .before .before .before .before .decide .ensures) _ (k .told) (c .if2 .taken), k .within .0, k .known)
 
 ignored-requires : tie.Need-ignored-requires
 ignored-requires c κs = search needs
@@ -71,12 +71,12 @@ returns-3 : tie.Need-returns-3
 returns-3 c =
     let a = c .before .before .before .before .before .before .before .before .before .before .before .before .before .before .before .before .before .before .args in
     let k = c .before .before .before .know .ensures in
-    (wrong-considered (now (a .t)) (a .usual) (a .installed) (a .s) (now (a .messages)) (a .i) _ (c .before .before .before .before .before .before .before .before .before .before .before .before .before .before .before .read .ensures) _ _ (c .before .before .before .before .before .before .before .before .before .before .before .before .before .message .given .1) (c .before .before .before .before .before .before .before .before .before .before .before .decide .ensures) _ _ (k .told) (c .before .if2 .left) (c .ignored .ensures), k .within .0, k .known)
+    (wrong-considered (a .usual) (a .installed) (a .s) (now (a .messages)) (a .i) _ (c .before .before .before .before .before .before .before .before .before .before .before .before .before .before .before .read .ensures) _ _ (c .before .before .before .before .before .before .before .before .before .before .before .before .before .message .given .1) (c .before .before .before .before .before .before .before .before .before .before .before .decide .ensures) _ _ (k .told) (c .before .if2 .left) (c .ignored .ensures), k .within .0, k .known)
 
 returns-4 : tie.Need-returns-4
 returns-4 c =
     let a = c .before .before .before .before .before .before .args in
-    (short-considered (now (a .t)) (a .usual) (a .installed) (a .s) (now (a .messages)) (a .i) _ (c .before .before .before .read .ensures) _ (c .before .enum-told .given .1) (c .ignored2 .ensures), c .before .before .before .before .before .before .pre .past, c .before .before .before .before .before .before .pre .known)
+    (short-considered (a .usual) (a .installed) (a .s) (now (a .messages)) (a .i) _ (c .before .before .before .read .ensures) _ (c .before .enum-told .given .1) (c .ignored2 .ensures), c .before .before .before .before .before .before .pre .past, c .before .before .before .before .before .before .pre .known)
 
 pub considered-spec : {M : Type 1} → statement M
 considered-spec =

@@ -7,7 +7,6 @@ use Prim.Native.Nat.{ℕ, _/_}
 use denote.Ref.{now}
 use lib.ListN.{length}
 use Rattle.aes.specs.Words.{Octets}
-use Rattle.aes.specs.MixTable.{mixTable}
 use Rattle.cmac.specs.declared.Prepared.{Prepared}
 use Rattle.activation.specs.Receiving.{receivedAllBy}
 use Rattle.activation.proofs.Receiving.{each-true, key-is}
@@ -27,9 +26,6 @@ returns c =
     let a = c .before .before .before .before .before .before .before .args in
     none-acts (now (a .messages)) (length (now (a .messages)) / 48) _ (a .s) _ (c .before .before .is-full .ensures) (c .before .past-inert .ensures) (c .if1 .taken)
 
-table-requires : tie.Need-table-requires
-table-requires c κs = search needs
-
 default-key-requires : tie.Need-default-key-requires
 default-key-requires c κs = search needs
 
@@ -41,17 +37,15 @@ receive-each-requires c κs = search needs
 
 returns-2 : tie.Need-returns-2
 returns-2 c =
-    let a = c .before .before .before .before .before .before .before .before .before .before .before .before .before .before .args in
+    let a = c .before .before .before .before .before .before .before .before .before .before .before .args in
     let b = now (a .messages) in
-    let t = c .before .before .before .before .before .before .table .result in
-    let u = c .before .before .before .before .before .default-key .result in
-    let p = c .before .before .installed-key .result in
-    let o : Octets b = λ i. omega (arith, c .before .before .before .before .before .before .before .before .before .before .before .before .before .shared-slice-known .given i) in
+    let u = c .before .before .before .default-key in
+    let p = c .before .installed-key in
+    let o : Octets b = λ i. omega (arith, c .before .before .before .before .before .before .before .before .before .before .shared-slice-known .given i) in
     c .receive-each .ensures
-    ∙ start-passed b (length b / 48) _ (a .s) _ (c .before .before .before .before .before .before .before .before .before .is-full .ensures) (c .before .before .before .before .before .before .before .before .past-inert .ensures) t u p
-    ∙ ap (λ (t : List ℕ). receivedAllBy t u p (a .s) b) (c .before .before .before .before .before .before .table .ensures)
-    ∙ ap (λ (x : Prepared). receivedAllBy mixTable x p (a .s) b) (c .before .before .before .before .before .default-key .ensures)
-    ∙ each-true p b o (length b / 48) 0 (a .s) (key-is t u (a .s .link .key) p (c .before .before .before .before .before .before .table .ensures) (c .before .before .before .before .before .default-key .ensures) (c .before .before .installed-key .ensures))
+    ∙ start-passed b (length b / 48) _ (a .s) _ (c .before .before .before .before .before .before .is-full .ensures) (c .before .before .before .before .before .past-inert .ensures) (u .result) (p .result)
+    ∙ ap (λ (x : Prepared). receivedAllBy x (p .result) (a .s) b) (u .ensures)
+    ∙ each-true (p .result) b o (length b / 48) 0 (a .s) (key-is (u .result) (a .s .link .key) (p .result) (u .ensures) (p .ensures))
 
 pub receive-all-spec : {M : Type 1} → statement M
 receive-all-spec =
@@ -60,7 +54,6 @@ receive-all-spec =
     is-full-requires
     past-inert-requires
     returns
-    table-requires
     default-key-requires
     installed-key-requires
     receive-each-requires

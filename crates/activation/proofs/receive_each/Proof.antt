@@ -18,10 +18,10 @@ use Rattle.activation.proofs.receive_each.Statement.{statement}
 use Rattle.activation.proofs.receive_each.Tie as tie
 
 abbrev Inv-loop : tie.InvT-loop
-Inv-loop t usual installed messages first n next₀ i₀ base₀ marks₀ next i base marks = (n ≡ length messages / 48) × (receivedEachBy t usual installed next (messagesFrom messages i (n - i)) ≡ receivedEachBy t usual installed next₀ (messagesFrom messages first (n - first))) × (n < 2 ^ 64) × (base ≤ i) × (Known (verdictAt t usual installed messages) base marks)
+Inv-loop usual installed messages first n next₀ i₀ base₀ marks₀ next i base marks = (n ≡ length messages / 48) × (receivedEachBy usual installed next (messagesFrom messages i (n - i)) ≡ receivedEachBy usual installed next₀ (messagesFrom messages first (n - first))) × (n < 2 ^ 64) × (base ≤ i) × (Known (verdictAt usual installed messages) base marks)
 
 abbrev μ-loop : tie.MeasureT-loop
-μ-loop t usual installed messages first n next₀ i₀ base₀ marks₀ next i base marks = n - i
+μ-loop usual installed messages first n next₀ i₀ base₀ marks₀ next i base marks = n - i
 
 loop-holds : tie.Need-loop-holds Inv-loop μ-loop
 loop-holds c = (refl, refl, omega arith, omega arith, none-known _ _)
@@ -71,7 +71,7 @@ loop-less : tie.Need-loop-less Inv-loop μ-loop
 loop-less c =
     let a = c .before .before .before .before .before .before .before .before .before .before .before .before .before .args in
     let l = c .before .before .before .before .before .before .before .before .before .before .before .loop in
-    let h = turn-on (now (a .t)) (a .usual) (a .installed) (now (a .messages)) (length (now (a .messages)) / 48) (l .i) (c .past-inert .result) (c .before .before .before .before .before .match .next) (c .before .is-full .result) (c .past-inert .ensures) in
+    let h = turn-on (a .usual) (a .installed) (now (a .messages)) (length (now (a .messages)) / 48) (l .i) (c .past-inert .result) (c .before .before .before .before .before .match .next) (c .before .is-full .result) (c .past-inert .ensures) in
     let k = c .before .before .before .before .before .before .before .before .before .before .loop-test .taken in
     omega arith
 
@@ -80,15 +80,15 @@ loop-again c =
     let a = c .before .before .before .before .before .before .before .before .before .before .before .before .before .args in
     let l = c .before .before .before .before .before .before .before .before .before .before .before .loop in
     let k = c .before .before .before .before .before .before .before .before .considered .ensures in
-    let h = turn-on (now (a .t)) (a .usual) (a .installed) (now (a .messages)) (length (now (a .messages)) / 48) (l .i) (c .past-inert .result) (c .before .before .before .before .before .match .next) (c .before .is-full .result) (c .past-inert .ensures) in
+    let h = turn-on (a .usual) (a .installed) (now (a .messages)) (length (now (a .messages)) / 48) (l .i) (c .past-inert .result) (c .before .before .before .before .before .match .next) (c .before .is-full .result) (c .past-inert .ensures) in
     let r = settled (c .before .before .before .before .before) ∙ k .0 in
-    (l .inv .0, turn-passed (now (a .t)) (a .usual) (a .installed) (now (a .messages)) _ (l .i) _ _ _ (c .past-inert .ensures) (l .next) (c .before .before .before .before .before .before .before .before .before .before .loop-test .taken) r (c .before .is-full .ensures) ∙ l .inv .1, l .inv .2, omega (arith, k .1), k .2)
+    (l .inv .0, turn-passed (a .usual) (a .installed) (now (a .messages)) _ (l .i) _ _ _ (c .past-inert .ensures) (l .next) (c .before .before .before .before .before .before .before .before .before .before .loop-test .taken) r (c .before .is-full .ensures) ∙ l .inv .1, l .inv .2, omega (arith, k .1), k .2)
 
 returns : tie.Need-returns Inv-loop μ-loop
 returns c =
     let a = c .before .before .before .args in
     let l = c .before .loop in
-    each-end (now (a .t)) (a .usual) (a .installed) (now (a .messages)) _ (l .i) (l .next) (c .loop-test .left) ∙ l .inv .1
+    each-end (a .usual) (a .installed) (now (a .messages)) _ (l .i) (l .next) (c .loop-test .left) ∙ l .inv .1
 
 pub receive-each-spec : {M : Type 1} → statement M
 receive-each-spec =

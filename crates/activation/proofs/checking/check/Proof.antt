@@ -48,7 +48,7 @@ enter-requires c κs = search needs
 returns : tie.Need-returns
 returns c =
     let a = c .before .before .before .before .before .before .before .before .before .before .args in
-    checked (now (a .t)) (a .usual) (a .installed) _ (now (a .messages)) _ (c .before .before .before .chosen .ensures) (a .base) (a .i) _ _ _ _ (c .before .before .before .before .before .gather .ensures) (c .before .before .rights .ensures) (c .enter .ensures) (c .before .before .before .before .before .before .before .before .before .before .pre .0 .known)
+    checked (a .usual) (a .installed) _ (now (a .messages)) _ (c .before .before .before .chosen .ensures) (a .base) (a .i) _ _ _ _ (c .before .before .before .before .before .gather .ensures) (c .before .before .rights .ensures) (c .enter .ensures) (c .before .before .before .before .before .before .before .before .before .before .pre .0 .known)
 
 pub check-spec : {M : Type 1} → statement M
 check-spec =

@@ -7,8 +7,7 @@ use Prim.Native.Nat.{ℕ, _/_}
 use denote.Ref.{now}
 use lib.ListN.{length}
 use Rattle.aes.specs.Words.{wordsOf, Octets}
-use Rattle.aes.specs.MixTable.{mixTable}
-use Rattle.cmac.specs.ByTable.{preparedBy}
+use Rattle.cmac.specs.Tags.{preparedBy}
 use Rattle.cmac.specs.declared.Prepared.{Prepared}
 use Rattle.integrity.specs.Integrity.{defaultKey}
 use Rattle.activation.specs.Receiving.{messagesIn}
@@ -38,7 +37,7 @@ returns c =
     let ready = c .before .before .prepare .ensures in
     c .count-genuine .ensures
     ∙ ap₂ (λ (u p : Prepared). genuineCountBy (table .result) u p (messagesIn b)) (c .before .before .before .before .default-key .ensures) (ready .made)
-    ∙ ap (λ (t : List ℕ). genuineCountBy t (preparedBy mixTable (wordsOf defaultKey)) (preparedBy t (wordsOf benchKey)) (messagesIn b)) (table .ensures)
+    ∙ ap (λ (t : List ℕ). genuineCountBy (preparedBy (wordsOf defaultKey)) (preparedBy (wordsOf benchKey)) (messagesIn b)) (table .ensures)
     ∙ count-true benchKey b (ready .octets) refl o (length b / 48) 0
 
 pub bench-genuine-spec : {M : Type 1} → statement M
