@@ -155,7 +155,7 @@ fn prepared(octets: [u8; 16]) -> Prepared
 }
 
 // The key held, or the default where none is.
-fn installed_key(usual: Prepared, key: Key) -> Prepared
+pub fn installed_key(usual: Prepared, key: Key) -> Prepared
     ensures { λ r. ⌜ Installed usual key r ⌝ }
 {
     let octets = key.octets;

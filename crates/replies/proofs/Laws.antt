@@ -15,12 +15,14 @@ use Rattle.integrity.proofs.Keys.{default-octets}
 use Rattle.upstream.specs.declared.UpstreamMessage.{UpstreamMessage}
 use Rattle.upstream.specs.Upstream.{upstreamOctets}
 use Rattle.upstream.specs.Writing.{Outcome, Leaves, written, writtenBy}
-use Rattle.upstream.proofs.RoundTrip.{written-by-mix-table}
+use Rattle.upstream.proofs.RoundTrip.{written-prepared}
 use Rattle.station.specs.declared.Activation.{Activation}
 use Rattle.station.specs.declared.Activation.the-variants.{Initial, SerialNumber, Ranging, Operation, Intermittent, EmergencyStop}
 use Rattle.station.specs.declared.Station.{Station}
 use Rattle.link.specs.declared.Key.{Key}
+use Rattle.activation.specs.Receiving.{Installed}
 use Rattle.activation.specs.Replying.{afterIn, afterReply}
+use Rattle.activation.proofs.Receiving.{key-is}
 use Rattle.replies.specs.Replies.{keyOf, inPlace, wrote, repliesFrom, Keyed, Left}
 
 -- what the prepared keys write is what the station's key would
@@ -31,10 +33,9 @@ pub written-true
 written-true usual installed k m id target left h w =
     ap (λ (o : Outcome). o .target)
     (w .made
-    ∙ ap (λ (x : List ℕ). writtenBy x usual installed m id target) (h .table)
     ∙ ap (λ (u : Prepared). writtenBy u installed m id target) (h .default)
     ∙ ap (λ (u : Prepared). writtenBy (preparedBy (wordsOf defaultKey)) u m id target) (h .own)
-    ∙ written-by-mix-table (keyOf k) m id target (h .octets) (h .sixteen) (w .known))
+    ∙ written-prepared (keyOf k) m id target (h .octets) (h .sixteen) (w .known))
 
 -- a reply leaves the key
 after-key : (a : Activation) (s : Station) → afterIn a s .link .key ≡ s .link .key
@@ -58,17 +59,11 @@ pub replies-end
     : (s : Station) (delay : ℕ) (b : List ℕ) (n i : ℕ) → n ≤ i → record { station = s; octets = b } ≡ repliesFrom s delay b i (n - i)
 replies-end s delay b n i h = let e : n - i ≡ 0 = omega arith in rw e
 
--- the prepared keys are those of a station that holds a key, and of one that holds none
-pub keyed-held
-    : (u p : Prepared) (k : Key) → t ≡ mixTable → k .held ≡ true → u ≡ preparedBy (wordsOf defaultKey)
-    → p ≡ preparedBy (wordsOf (k .octets)) → Octets (k .octets) → length (k .octets) ≡ 16 → Keyed u p k
-keyed-held u p k e h a b o l =
-    let b′ : p ≡ preparedBy (wordsOf (k .octets)) = b ∙ ap (λ (x : List ℕ). preparedBy x (wordsOf (k .octets))) e in
-    record { table = e; default = a; own = rw h b′; octets = rw h o; sixteen = rw h l }
-
-pub keyed-none
-    : (u : Prepared) (k : Key) → t ≡ mixTable → k .held ≡ false → u ≡ preparedBy (wordsOf defaultKey) → Keyed u u k
-keyed-none u k e h a = record { table = e; default = a; own = rw h a; octets = rw h default-octets; sixteen = rw h }
+-- the prepared keys are those of a station, whether it holds a key or none
+pub keyed : (u p : Prepared) (k : Key) → u ≡ preparedBy (wordsOf defaultKey) → Installed u k p → Keyed u p k
+keyed u p k e h =
+    let f = key-is u k p e h in
+    record { default = e; own = f .0; octets = f .1; sixteen = f .2 }
 
 -- as many as there is room for
 pub room-for : (n k b : ℕ) → k ≡ min n (b / 48) → b < 2 ^ 64 → (48 * k ≤ b) × (k < 2 ^ 63)

@@ -49,7 +49,6 @@ Replied s n delay b left = left ≡ repliesFrom s delay b 0 (min n (length b / m
 
 -- ---- the prepared keys are those of the station
 pub record Keyed (usual installed : Prepared) (k : Key) : Type 0 where
-  pub table : t ≡ mixTable
   pub default : usual ≡ preparedBy (wordsOf defaultKey)
   pub own : installed ≡ preparedBy (wordsOf (keyOf k))
   pub octets : Octets (keyOf k)

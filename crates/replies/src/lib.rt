@@ -5,8 +5,6 @@ ghost use mathlib.Core.Path.{_≡_};
 ghost use Prim.Native.Nat.{min, _*_, _≤_, _<_, _^_};
 ghost use Rattle.ploam.specs.Layout.{messageOctets};
 ghost use lib.ListN.{length};
-ghost use Rattle.cmac.specs.Tags.{Ready};
-ghost use Rattle.link.specs.Limits.{keyOctets};
 ghost use Rattle.replies.specs.Replies.{Keyed, wrote, Left, repliesFrom, Replied};
 use activation::replying::Reply;
 use cmac::Prepared;
@@ -61,12 +59,6 @@ fn fewer(a: usize, b: usize) -> usize
     if a <= b { a } else { b }
 }
 
-fn prepared(octets: [u8; 16]) -> Prepared
-    ensures { λ r. ⌜ (Ready octets r) × (length octets ≡ keyOctets) ⌝ }
-{
-    cmac::prepare(octets)
-}
-
 // The replies of n planned PLOAMu bursts, as far as the buffer has room for them; past them it keeps its octets.
 pub fn reply_all(s: Station, n: usize, delay: u32, replies: &mut [u8]) -> Station
     ensures { λ r. ⌜ Replied s n delay (now (replies .entry)) (record { station = r; octets = now (replies .exit) }) ⌝ }
@@ -78,10 +70,6 @@ pub fn reply_all(s: Station, n: usize, delay: u32, replies: &mut [u8]) -> Statio
     let usual = integrity::default_key();
     let link = s.link;
     let key = link.key;
-    let octets = key.octets;
-    if key.held {
-        let installed = prepared(octets);
-        return write_each(usual, installed, s, k, delay, replies);
-    }
-    write_each(usual, usual, s, k, delay, replies)
+    let installed = activation::installed_key(usual, key);
+    write_each(usual, installed, s, k, delay, replies)
 }

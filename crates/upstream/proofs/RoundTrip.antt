@@ -155,11 +155,11 @@ chosen true key octets ok h oo =
     mac64-prepared defaultKey (covered Upstream octets) default-octets refl (octets-covered Upstream octets oo)
 chosen false key octets ok h oo = mac64-prepared key (covered Upstream octets) ok h (octets-covered Upstream octets oo)
 
-pub written-by-mix-table : (key : List ℕ) (message : UpstreamMessage) (id target : List ℕ) → Octets key → length key ≡ 16
+pub written-prepared : (key : List ℕ) (message : UpstreamMessage) (id target : List ℕ) → Octets key → length key ≡ 16
     → Octets (upstreamOctets message id)
     → writtenBy (preparedBy (wordsOf defaultKey)) (preparedBy (wordsOf key)) message id target
     ≡ written key message id target
 unfolding writtenBy written
-written-by-mix-table key message id target ok h oo =
+written-prepared key message id target ok h oo =
     ap (λ (mic : List ℕ). laid mic (fitting message) (upstreamOctets message id) target)
     (chosen (byDefault Upstream (upstreamAddress message) (upstreamType message)) key (upstreamOctets message id) ok h oo)

@@ -43,7 +43,7 @@ written installed message id target =
     laid (micOf key Upstream octets) (fitting message) octets target
 
 -- the same by a lent table and prepared keys, for every table and prepared key; for the true ones proofs/RoundTrip has
--- `written-by-mix-table`
+-- `written-prepared`
 abbrev pub laidBy : Prepared → Direction → Bool → List ℕ → List ℕ → Outcome
 laidBy key direction fits octets target = laid (mac64By key (covered direction octets)) fits octets target
 
