@@ -4,3 +4,4 @@ pub mod Signed
 pub mod Determined
 pub mod WhichKey
 pub mod SideBySide
+pub mod RowByRow

@@ -1,2 +1,3 @@
 pub mod Integrity
 pub mod Rights
+pub mod Rows

@@ -1,15 +1,16 @@
 // The integrity check of a PLOAM message (G.987.3, clause 15.6), and which key it is made with.
 ghost use mathlib.Core.Path.{_≡_};
 ghost use mathlib.Core.List.{_∷_};
-ghost use Prim.Native.Nat.{_≤_};
+ghost use Prim.Native.Nat.{_+_, _*_, _≤_};
 ghost use lib.ListN.{length, take};
+ghost use lib.Seq.{paste};
 ghost use Rattle.aes.specs.Words.{wordsOf};
+ghost use Rattle.aes.specs.Blocks.{mostBlocks};
 ghost use Rattle.cmac.specs.Tags.{preparedBy, mac64By};
-ghost use mathlib.Core.Bool.{cond};
 ghost use Rattle.ploam.specs.Layout.{messageOctets, coveredOctets, messageAt, addressOf, micField};
 ghost use Rattle.integrity.specs.Integrity.{directionCode, covered, same, defaultKey, downstreamByDefault, upstreamByDefault, byDefault, micRightBy, genuineBy};
 ghost use Rattle.integrity.specs.Rights.{markOf, rightsBy};
-ghost use Rattle.integrity.specs.declared.Direction.the-variants.{Downstream};
+ghost use Rattle.integrity.specs.Rows.{rowOctets, coveredIn, Rows, hasField};
 use aes::Words;
 use cmac::Prepared;
 use ids::OnuId;
@@ -29,6 +30,9 @@ pub const RIGHT: u8 = 1;
 
 pub const NOT_RIGHT: u8 = 2;
 
+// And the direction code before it.
+const ROW_OCTETS: usize = 41;
+
 // Which way a message goes: it is a part of what the integrity field covers.
 pub enum Direction {
     Downstream,
@@ -44,17 +48,25 @@ fn direction_code(direction: Direction) -> u8
     }
 }
 
+// What is authenticated of a message, laid out from octet `at` on.
+fn cover(code: u8, m: &[u8], rows: &mut [u8], at: usize)
+    requires { ⌜ (coveredOctets ≤ length (now m)) × (at + rowOctets ≤ length (now rows)) ⌝ }
+    ensures { λ _. ⌜ now (rows .exit) ≡ paste (now (rows .entry)) at (code ∷ take coveredOctets (now (m .entry))) rowOctets ⌝ }
+{
+    rows[at] = code;
+    let mut i: usize = 0;
+    while i < COVERED_OCTETS {
+        rows[at + 1 + i] = m[i];
+        i += 1;
+    }
+}
+
 fn with_code(code: u8, m: &[u8]) -> [u8; 41]
     requires { ⌜ coveredOctets ≤ length (now m) ⌝ }
     ensures { λ r. ⌜ r ≡ code ∷ take coveredOctets (now (m .entry)) ⌝ }
 {
     let mut b = [0u8; 41];
-    b[0] = code;
-    let mut i: usize = 0;
-    while i < COVERED_OCTETS {
-        b[i + 1] = m[i];
-        i += 1;
-    }
+    cover(code, m, &mut b, 0);
     b
 }
 
@@ -96,16 +108,41 @@ pub fn mic_right(key: Prepared, direction: Direction, m: &[u8]) -> bool
     has_mic(m, mic(key, direction, m))
 }
 
-// What is past the last whole message is not right.
-fn right_at(key: Prepared, messages: &[u8], place: usize) -> bool
-    ensures { λ r. ⌜ r ≡ micRightBy key Downstream (messageAt (now (messages .entry)) place) ⌝ }
+// A place past the last whole message has no row.
+fn cover_at(messages: &[u8], place: usize, rows: &mut [u8], at: usize)
+    requires { ⌜ at + rowOctets ≤ length (now rows) ⌝ }
+    ensures { λ _. ⌜ now (rows .exit) ≡ coveredIn (now (messages .entry)) place (now (rows .entry)) at ⌝ }
+{
+    if messages.len() / MESSAGE_OCTETS <= place {
+        return;
+    }
+    let from = MESSAGE_OCTETS * place;
+    let to = from + MESSAGE_OCTETS;
+    let code = direction_code(Direction::Downstream);
+    cover(code, &messages[from..to], rows, at);
+}
+
+fn cover_each(messages: &[u8], places: [usize; 8], n: usize, rows: &mut [u8])
+    requires { ⌜ (n ≤ mostBlocks) × (n * rowOctets ≤ length (now rows)) ⌝ }
+    ensures { λ _. ⌜ (Rows (now (messages .entry)) places n (now (rows .exit))) × (length (now (rows .exit)) ≡ length (now (rows .entry))) ⌝ }
+{
+    let mut j: usize = 0;
+    while j < n {
+        cover_at(messages, places[j], rows, j * ROW_OCTETS);
+        j += 1;
+    }
+}
+
+// Whether the message at a place has this integrity field; past the last whole message there is none.
+fn right_at(messages: &[u8], place: usize, mic: [u8; 8]) -> bool
+    ensures { λ r. ⌜ r ≡ hasField mic (messageAt (now (messages .entry)) place) ⌝ }
 {
     if messages.len() / MESSAGE_OCTETS <= place {
         return false;
     }
-    let at = MESSAGE_OCTETS * place;
-    let end = at + MESSAGE_OCTETS;
-    mic_right(key, Direction::Downstream, &messages[at..end])
+    let from = MESSAGE_OCTETS * place;
+    let to = from + MESSAGE_OCTETS;
+    has_mic(&messages[from..to], mic)
 }
 
 fn mark_of(right: bool) -> u8
@@ -114,23 +151,23 @@ fn mark_of(right: bool) -> u8
     if right { RIGHT } else { NOT_RIGHT }
 }
 
-fn mark(key: Prepared, messages: &[u8], place: usize, asked: bool) -> u8
-    ensures { λ r. ⌜ r ≡ cond asked (markOf (micRightBy key Downstream (messageAt (now (messages .entry)) place))) 0 ⌝ }
-{
-    if asked {
-        return mark_of(right_at(key, messages, place));
-    }
-    NOT_ASKED
-}
-
 // The downstream messages at the first `count` places, all under one key: a mark for each.
 pub fn rights(key: Prepared, messages: &[u8], places: [usize; 8], count: usize) -> [u8; 8]
     ensures { λ r. ⌜ r ≡ rightsBy key (now (messages .entry)) places count ⌝ }
 {
     let mut marks = [NOT_ASKED; 8];
+    let n = aes::at_most(count);
+    if n == 0 {
+        return marks;
+    }
+    let mut rows = [0u8; 328];
+    cover_each(messages, places, n, &mut rows);
+    let end = n * ROW_OCTETS;
+    let tags = cmac::tags(key, &rows[..end], n);
     let mut j: usize = 0;
-    while j < 8 {
-        marks[j] = mark(key, messages, places[j], j < count);
+    while j < n {
+        let mic = cmac::first_octets(aes::block(&tags, j));
+        marks[j] = mark_of(right_at(messages, places[j], mic));
         j += 1;
     }
     marks

@@ -11,13 +11,7 @@ use cmac::Prepared;
 use ploam::MESSAGE_OCTETS;
 use station::Station;
 
-fn write_reply(
-    usual: Prepared,
-    installed: Prepared,
-    s: Station,
-    delay: u32,
-    target: &mut [u8],
-)
+fn write_reply(usual: Prepared, installed: Prepared, s: Station, delay: u32, target: &mut [u8])
     requires { ⌜ Keyed usual installed (s .link .key) ⌝ }
     ensures { λ _. ⌜ now (target .exit) ≡ wrote s delay (now (target .entry)) ⌝ }
 {

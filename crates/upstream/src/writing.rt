@@ -209,13 +209,7 @@ fn lay(target: &mut [u8], at: usize, s: &[u8])
 }
 
 // Lays octets 1 to 40 and their integrity field over the front of target.
-fn put(
-    key: Prepared,
-    direction: Direction,
-    fits: bool,
-    b: &[u8; 40],
-    target: &mut [u8],
-) -> Written
+fn put(key: Prepared, direction: Direction, fits: bool, b: &[u8; 40], target: &mut [u8]) -> Written
     ensures { λ r. ⌜ record { answer = r; target = now (target .exit) } ≡ laidBy key direction fits (now (b .entry)) (now (target .entry)) ⌝ }
 {
     if fits {

@@ -264,12 +264,7 @@ fn omci_message() {
     line(b"IV.10", &first);
 }
 
-fn written(
-    name: &[u8],
-    usual: Prepared,
-    installed: Prepared,
-    message: UpstreamMessage,
-) {
+fn written(name: &[u8], usual: Prepared, installed: Prepared, message: UpstreamMessage) {
     let id = *b"0123456789abcdefghijklmnopqrstuvwxyz";
     let mut target = [0u8; 48];
     match upstream::writing::write(usual, installed, message, id, &mut target) {
