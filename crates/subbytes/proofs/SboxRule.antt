@@ -1,10 +1,10 @@
--- The table holds the S-box, and its values are octets: one test each, which antt computes.
+-- The table holds the S-box, its values are octets, and the inverse in its definition is one: a test each, which antt computes.
 -- Assumes nothing.
-use mathlib.Core.Path.{_≡_, _∙_, sym, subst}
+use mathlib.Core.Path.{_≡_, _∙_, subst}
 use mathlib.Core.Bool.{Bool}
-use Prim.Native.Nat.{ℕ, _+_, _%_, _<_}
+use Prim.Native.Nat.{ℕ, suc, _+_, _%_, _<_}
 use native.Mathlib.Omega.{arith}
-use lib.Dec.{T, ltb, ltb→lt}
+use lib.Dec.{T, eqb, eqb→eq, ltb, ltb→lt}
 use lib.ListN.{getD, replicate}
 use Rattle.tables.specs.Tables.{past}
 use Rattle.tables.proofs.Entries.{past-at}
@@ -37,3 +37,11 @@ double k x = ltb (xtime k) 256
 pub xtime-byte : (k : ℕ) → k < 256 → xtime k < 256
 unfolding double xtime
 xtime-byte k h = ltb→lt (xtime k) 256 (at double (replicate 256 0) tt k h)
+
+-- the definition of the inverse is right: a times it is 1, for each octet a but 0
+undone : ℕ → ℕ → Bool
+undone k x = eqb (gmul (suc k) (inverse (suc k))) 1
+
+pub inverse-right : (k : ℕ) → k < 255 → gmul (suc k) (inverse (suc k)) ≡ 1
+unfolding undone xtime products gmul square inverse
+inverse-right k h = eqb→eq (gmul (suc k) (inverse (suc k))) 1 (at undone (replicate 255 0) tt k h)
