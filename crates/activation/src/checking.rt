@@ -34,12 +34,27 @@ fn by_usual(m: &[u8]) -> bool
     integrity::by_default(Direction::Downstream, inert::address(m[0], m[1]), m[2])
 }
 
+// Whether such a message acts in any state, by the types of Table 11-2: to check one that is ignored anyway is in vain.
+fn may_act(broadcast: bool, kind: u8, octet5: u8) -> bool {
+    match kind {
+        0x01 | 0x0d | 0x12 => false,
+        0x03 | 0x06 => broadcast,
+        0x04 => !broadcast || octet5 % 2 == 0,
+        0x05 => true,
+        _ => !broadcast,
+    }
+}
+
 // Whether a message is worth a place in a group of those that the default key, or the installed one, checks.
 fn joins(onu: OnuId, full: bool, usual: bool, m: &[u8]) -> bool
     requires { ⌜ messageOctets ≤ length (now m) ⌝ }
     ensures { λ r. ⌜ (r ≡ true → byUsual (now (m .entry)) ≡ usual) ⌝ }
 {
     if inert::is_inert(onu, full, m) {
+        return false;
+    }
+    let to = inert::address(m[0], m[1]);
+    if !may_act(to.is(OnuId::broadcast()), m[2], m[4]) {
         return false;
     }
     by_usual(m) == usual
