@@ -18,7 +18,6 @@ use Rattle.integrity.specs.Rights.{markOf, rightsBy}
 use Rattle.integrity.specs.declared.Direction.the-variants.{Downstream}
 use Rattle.integrity.proofs.SideBySide.{rights-at}
 use Rattle.activation.specs.Checking.{byUsual, verdictAt, Known, Within, Told, Gathered, entered}
-use Rattle.activation.specs.declared.checking.Group.{Group}
 
 -- ---- a group grows
 
@@ -39,7 +38,7 @@ stored P l n k x h p f j g = go (eqb j k) refl
     go false e = rw (getD-set-other l k j x 0 (eqb-false j k e)) (f j g)
 
 module _ (usual : Bool) (b : List ℕ) (base i : ℕ) where
-  pub alone : Within base i → byUsual (messageAt b i) ≡ usual → Gathered usual b base i (record { places = replicate 8 i; count = 1 })
+  pub alone : Within base i → byUsual (messageAt b i) ≡ usual → Gathered usual b base i (replicate 8 i) 1
   alone w e =
       record {
         first = refl;
@@ -49,10 +48,10 @@ module _ (usual : Bool) (b : List ℕ) (base i : ℕ) where
         alike = λ j h. rw (getD-replicate 8 j i 0 h) e;
       }
 
-  module _ (places : List ℕ) (count : ℕ) (l : length places ≡ 8) (g : Gathered usual b base i (record { places = places; count = count })) where
+  module _ (places : List ℕ) (count : ℕ) (l : length places ≡ 8) (g : Gathered usual b base i places count) where
     pub joined
         : (p : ℕ) (places′ : List ℕ) (count′ : ℕ) → places′ ≡ set places count p → count′ ≡ count + 1 → count < 8 → Within base p
-        → byUsual (messageAt b p) ≡ usual → Gathered usual b base i (record { places = places′; count = count′ })
+        → byUsual (messageAt b p) ≡ usual → Gathered usual b base i places′ count′
     joined p places′ count′ e f h w a =
         let c : count < length places = omega arith in
         let z : 0 ≡ count → ⊥ = λ q. omega (arith, g .some) in
@@ -66,7 +65,7 @@ module _ (usual : Bool) (b : List ℕ) (base i : ℕ) where
         })
 
     pub not-joined
-        : (places′ : List ℕ) (count′ : ℕ) → places′ ≡ places → count′ ≡ count → Gathered usual b base i (record { places = places′; count = count′ })
+        : (places′ : List ℕ) (count′ : ℕ) → places′ ≡ places → count′ ≡ count → Gathered usual b base i places′ count′
     not-joined places′ count′ e f = rw (e, f) g
 
 -- ---- marks are entered one after another
@@ -154,20 +153,20 @@ module _ (usual installed key : Prepared) (b : List ℕ) (isUsual : Bool) (ek : 
       ∙ ap (λ (x : Bool). micRightBy (cond x usual installed) Downstream m) (sym e)
 
   pub checked
-      : (base i : ℕ) (g : Group) (found marks marks′ : List ℕ) → Gathered isUsual b base i g → found ≡ rightsBy key b (g .places) (g .count)
-      → marks′ ≡ entered base (g .places) found 0 (g .count) marks → Known (verdictAt usual installed b) base marks
+      : (base i : ℕ) (places : List ℕ) (count : ℕ) (found marks marks′ : List ℕ) → Gathered isUsual b base i places count → found ≡ rightsBy key b places count
+      → marks′ ≡ entered base places found 0 count marks → Known (verdictAt usual installed b) base marks
       → Told (verdictAt usual installed b) base i marks′
-  checked base i g found marks marks′ h ef em k =
+  checked base i places count found marks marks′ h ef em k =
       let verdict = verdictAt usual installed b in
-      let one : (j : ℕ) → j < g .count → at found j ≡ verdict (at (g .places) j) = λ j c.
-      let m : g .count ≤ 8 = h .most in
+      let one : (j : ℕ) → j < count → at found j ≡ verdict (at places j) = λ j c.
+      let m : count ≤ 8 = h .most in
       let n : j < 8 = omega arith in
-      ap (λ (l : List ℕ). at l j) ef ∙ rights-at key b (g .places) (g .count) j n c ∙ ap markOf (own-key (messageAt b (at (g .places) j)) (h .alike j n))
+      ap (λ (l : List ℕ). at l j) ef ∙ rights-at key b places count j n c ∙ ap markOf (own-key (messageAt b (at places j)) (h .alike j n))
       in
-      let told = told-after verdict base (g .places) found (h .within) (g .count) marks (h .some) (h .most) one (k .whole) in
+      let told = told-after verdict base places found (h .within) count marks (h .some) (h .most) one (k .whole) in
       rw em
       (record {
         within = rw (sym (h .first)) (h .within 0 (omega arith));
-        known = known-after verdict base (g .places) found (h .within) (g .count) marks (h .most) one k;
+        known = known-after verdict base places found (h .within) count marks (h .most) one k;
         told = rw (sym (h .first)) told;
       })

@@ -12,7 +12,6 @@ use Rattle.ploam.specs.Layout.{messageAt, addressOf, typeOf}
 use Rattle.integrity.specs.Integrity.{byDefault, genuineBy}
 use Rattle.integrity.specs.Rights.{markOf}
 use Rattle.integrity.specs.declared.Direction.the-variants.{Downstream}
-use Rattle.activation.specs.declared.checking.Group.{Group}
 
 -- messages of a window, and those that are checked side by side
 abbrev pub windowMessages : ℕ
@@ -51,12 +50,12 @@ pub record Told (verdict : ℕ → ℕ) (base i : ℕ) (marks : List ℕ) : Type
   pub told : at marks (i - base) ≡ verdict i
 
 -- places of the window, the first of them i, all of messages that one key checks
-pub record Gathered (usual : Bool) (b : List ℕ) (base i : ℕ) (g : Group) : Type 0 where
-  pub first : at (g .places) 0 ≡ i
-  pub some : 0 < g .count
-  pub most : g .count ≤ sideBySide
-  pub within : (j : ℕ) → j < sideBySide → Within base (at (g .places) j)
-  pub alike : (j : ℕ) → j < sideBySide → byUsual (messageAt b (at (g .places) j)) ≡ usual
+pub record Gathered (usual : Bool) (b : List ℕ) (base i : ℕ) (places : List ℕ) (count : ℕ) : Type 0 where
+  pub first : at places 0 ≡ i
+  pub some : 0 < count
+  pub most : count ≤ sideBySide
+  pub within : (j : ℕ) → j < sideBySide → Within base (at places j)
+  pub alike : (j : ℕ) → j < sideBySide → byUsual (messageAt b (at places j)) ≡ usual
 
 -- the marks found for k places, from the j-th on, are entered
 abbrev pub entered : ℕ → List ℕ → List ℕ → ℕ → ℕ → List ℕ → List ℕ

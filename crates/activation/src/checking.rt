@@ -21,17 +21,22 @@ pub(crate) const WINDOW: usize = 64;
 // Messages that are checked at a time.
 const SIDE_BY_SIDE: usize = 8;
 
-// Places of messages that one key checks: the first `count`.
-pub struct Group {
-    pub places: [usize; 8],
-    pub count: usize,
-}
-
 fn by_usual(m: &[u8]) -> bool
     requires { ⌜ messageOctets ≤ length (now m) ⌝ }
     ensures { λ r. ⌜ r ≡ byUsual (now (m .entry)) ⌝ }
 {
     integrity::by_default(Direction::Downstream, inert::address(m[0], m[1]), m[2])
+}
+
+// Whether such a message acts in any state, by the types of Table 11-2: to check one that is ignored anyway is in vain.
+fn may_act(broadcast: bool, kind: u8, octet5: u8) -> bool {
+    match kind {
+        0x01 | 0x0d | 0x12 => false,
+        0x03 | 0x06 => broadcast,
+        0x04 => !broadcast || octet5 % 2 == 0,
+        0x05 => true,
+        _ => !broadcast,
+    }
 }
 
 // Whether a message is worth a place in a group of those that the default key, or the installed one, checks.
@@ -40,6 +45,10 @@ fn joins(onu: OnuId, full: bool, usual: bool, m: &[u8]) -> bool
     ensures { λ r. ⌜ (r ≡ true → byUsual (now (m .entry)) ≡ usual) ⌝ }
 {
     if inert::is_inert(onu, full, m) {
+        return false;
+    }
+    let to = inert::address(m[0], m[1]);
+    if !may_act(to.is(OnuId::broadcast()), m[2], m[4]) {
         return false;
     }
     by_usual(m) == usual
@@ -53,7 +62,8 @@ fn end_of(base: usize, n: usize) -> usize
     if n - base < WINDOW { n } else { base + WINDOW }
 }
 
-// Message i, and further ones that the same key checks. Which of them are taken is a matter of speed alone.
+// Message i, and further ones that the same key checks: their places, and how many. Which of them are taken is a matter of
+// speed alone.
 fn gather(
     onu: OnuId,
     full: bool,
@@ -62,20 +72,18 @@ fn gather(
     marks: &[u8; 64],
     base: usize,
     i: usize,
-) -> Group
+    places: &mut [usize; 8],
+) -> usize
     requires { ⌜ (Within base i) × (i < length (now messages) / messageOctets) × (byUsual (messageAt (now messages) i) ≡ usual) ⌝ }
-    ensures { λ r. ⌜ Gathered usual (now (messages .entry)) base i r ⌝ }
+    ensures { λ r. ⌜ Gathered usual (now (messages .entry)) base i (now (places .exit)) r ⌝ }
 {
     let end = end_of(base, messages.len() / MESSAGE_OCTETS);
-    let mut places = [i; 8];
+    *places = [i; 8];
     let mut count: usize = 1;
     let mut p = i + 1;
     while p < end {
         if SIDE_BY_SIDE <= count {
-            return Group {
-                places: places,
-                count: count,
-            };
+            return count;
         }
         if marks[p - base] == NOT_ASKED {
             let at = MESSAGE_OCTETS * p;
@@ -87,15 +95,12 @@ fn gather(
         }
         p += 1;
     }
-    Group {
-        places: places,
-        count: count,
-    }
+    count
 }
 
-fn enter(places: [usize; 8], count: usize, found: [u8; 8], base: usize, marks: &mut [u8; 64])
-    requires { ⌜ (count ≤ 8) × ((j : ℕ) → j < 8 → Within base (at places j)) ⌝ }
-    ensures { λ _. ⌜ now (marks .exit) ≡ entered base places found 0 count (now (marks .entry)) ⌝ }
+fn enter(places: &[usize; 8], count: usize, found: &[u8; 8], base: usize, marks: &mut [u8; 64])
+    requires { ⌜ (count ≤ 8) × ((j : ℕ) → j < 8 → Within base (at (now places) j)) ⌝ }
+    ensures { λ _. ⌜ now (marks .exit) ≡ entered base (now (places .entry)) (now (found .entry)) 0 count (now (marks .entry)) ⌝ }
 {
     let mut j: usize = 0;
     while j < count {
@@ -128,11 +133,11 @@ fn check(
     let at = MESSAGE_OCTETS * i;
     let end = at + MESSAGE_OCTETS;
     let is_usual = by_usual(&messages[at..end]);
-    let group = gather(onu, full, is_usual, messages, marks, base, i);
-    let places = group.places;
+    let mut places = [0usize; 8];
+    let count = gather(onu, full, is_usual, messages, marks, base, i, &mut places);
     let key = chosen(is_usual, usual, installed);
-    let found = integrity::rights(key, messages, places, group.count);
-    enter(places, group.count, found, base, marks);
+    let found = integrity::rights(key, messages, places, count);
+    enter(&places, count, &found, base, marks);
 }
 
 // Where message i is past the window, a new one begins with it.

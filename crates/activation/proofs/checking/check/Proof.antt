@@ -31,10 +31,10 @@ by-usual-requires c κs = search needs
 
 gather-requires : tie.Need-gather-requires
 gather-requires c κs =
-    let a = c .before .before .before .before .args in
-    let p = c .before .before .before .before .pre in
+    let a = c .before .before .before .before .before .args in
+    let p = c .before .before .before .before .before .pre in
     let e : 48 * a .i + 48 - 48 * a .i ≡ 48 = omega arith in
-    ((p .0 .past, p .1), p .0 .there, sym (c .before .by-usual .ensures ∙ ap (λ (k : ℕ). byUsual (take k (drop (48 * a .i) (now (a .messages))))) e))
+    ((p .0 .past, p .1), p .0 .there, sym (c .before .before .by-usual .ensures ∙ ap (λ (k : ℕ). byUsual (take k (drop (48 * a .i) (now (a .messages))))) e))
 
 chosen-requires : tie.Need-chosen-requires
 chosen-requires c κs = search needs
@@ -47,8 +47,8 @@ enter-requires c κs = search needs
 
 returns : tie.Need-returns
 returns c =
-    let a = c .before .before .before .before .before .before .before .before .before .before .args in
-    checked (a .usual) (a .installed) _ (now (a .messages)) _ (c .before .before .before .chosen .ensures) (a .base) (a .i) _ _ _ _ (c .before .before .before .before .before .gather .ensures) (c .before .before .rights .ensures) (c .enter .ensures) (c .before .before .before .before .before .before .before .before .before .before .pre .0 .known)
+    let a = c .before .before .before .before .before .before .before .before .before .before .before .before .args in
+    checked (a .usual) (a .installed) _ (now (a .messages)) _ (c .before .before .before .before .before .chosen .ensures) (a .base) (a .i) _ _ _ _ _ (c .before .before .before .before .before .before .gather .ensures) (c .before .before .before .before .rights .ensures) (c .enter .ensures) (c .before .before .before .before .before .before .before .before .before .before .before .before .pre .0 .known)
 
 pub check-spec : {M : Type 1} → statement M
 check-spec =

@@ -13,10 +13,10 @@ use Rattle.activation.proofs.checking.gather.Statement.{statement}
 use Rattle.activation.proofs.checking.gather.Tie as tie
 
 abbrev Inv-loop : tie.InvT-loop
-Inv-loop onu full usual messages marks base i end places₀ count₀ p₀ places count p = (Gathered usual messages base i (record { places = places; count = count })) × (length places ≡ 8) × (end ≤ base + 64) × (end ≤ length messages / 48) × (base ≤ p)
+Inv-loop onu full usual messages marks base i places₀ end count₀ p₀ places count p = (Gathered usual messages base i places count) × (length places ≡ 8) × (end ≤ base + 64) × (end ≤ length messages / 48) × (base ≤ p)
 
 abbrev μ-loop : tie.MeasureT-loop
-μ-loop onu full usual messages marks base i end places₀ count₀ p₀ places count p = end - p
+μ-loop onu full usual messages marks base i places₀ end count₀ p₀ places count p = end - p
 
 end-of-requires : tie.Need-end-of-requires Inv-loop μ-loop
 end-of-requires c κs = omega arith
@@ -26,8 +26,8 @@ add-p c = search needs
 
 loop-holds : tie.Need-loop-holds Inv-loop μ-loop
 loop-holds c =
-    let a = c .before .before .args in
-    (alone (a .usual) (now (a .messages)) (a .base) (a .i) (c .before .before .pre .0) (c .before .before .pre .2), refl, c .end-of .ensures .1, c .end-of .ensures .0, omega arith)
+    let a = c .before .before .before .args in
+    (alone (a .usual) (now (a .messages)) (a .base) (a .i) (c .before .before .before .pre .0) (c .before .before .before .pre .2), refl, c .before .end-of .ensures .1, c .before .end-of .ensures .0, omega arith)
 
 returns : tie.Need-returns Inv-loop μ-loop
 returns c = c .before .before .loop .inv .0
@@ -59,8 +59,8 @@ joins-requires c κs = search needs
 mul-places : tie.Need-mul-places Inv-loop μ-loop
 mul-places c = search needs
 
-array-write-places : tie.Need-array-write-places Inv-loop μ-loop
-array-write-places c = search needs
+element-write-places : tie.Need-element-write-places Inv-loop μ-loop
+element-write-places c = search needs
 
 add-count : tie.Need-add-count Inv-loop μ-loop
 add-count c = search needs
@@ -68,9 +68,9 @@ add-count c = search needs
 -- whether the message joins or not, it is a group
 gathered
     : (c : tie.Joined2 Inv-loop μ-loop)
-    → (Gathered (c .before .before .before .before .before .before .before .args .usual) (now (c .before .before .before .before .before .before .before .args .messages)) (c .before .before .before .before .before .before .before .args .base) (c .before .before .before .before .before .before .before .args .i) (record { places = c .if2 .places; count = c .if2 .count })) × (length (c .if2 .places) ≡ 8)
+    → (Gathered (c .before .before .before .before .before .before .before .before .args .usual) (now (c .before .before .before .before .before .before .before .before .args .messages)) (c .before .before .before .before .before .before .before .before .args .base) (c .before .before .before .before .before .before .before .before .args .i) (c .if2 .places) (c .if2 .count)) × (length (c .if2 .places) ≡ 8)
 gathered c =
-    let a = c .before .before .before .before .before .before .before .args in
+    let a = c .before .before .before .before .before .before .before .before .args in
     let l = c .before .before .before .before .loop in
     let b = now (a .messages) in
     let e : 48 * l .p + 48 - 48 * l .p ≡ 48 = omega arith in
@@ -118,7 +118,7 @@ gather-spec =
     part-joins-end
     joins-requires
     mul-places
-    array-write-places
+    element-write-places
     add-count
     add-p-2
     loop-less
