@@ -16,7 +16,7 @@ use integrity::NOT_ASKED;
 use ploam::MESSAGE_OCTETS;
 
 // Messages of a window. Its marks are 0 of a message that is not checked yet, and else what `integrity::rights` says.
-pub(crate) const WINDOW: usize = 64;
+const WINDOW: usize = 64;
 
 // Messages that are checked at a time.
 const SIDE_BY_SIDE: usize = 8;
@@ -28,7 +28,8 @@ fn by_usual(m: &[u8]) -> bool
     integrity::by_default(Direction::Downstream, inert::address(m[0], m[1]), m[2])
 }
 
-// Whether such a message acts in any state, by the types of Table 11-2: to check one that is ignored anyway is in vain.
+// Whether such a message acts in any state: to check one that is ignored anyway is in vain. In the order of the types:
+// Profile, Key_Control, Sleep_Allow; Assign_ONU-ID, Disable_Serial_Number; Ranging_Time; Deactivate_ONU-ID; all others.
 fn may_act(broadcast: bool, kind: u8, octet5: u8) -> bool {
     match kind {
         0x01 | 0x0d | 0x12 => false,
