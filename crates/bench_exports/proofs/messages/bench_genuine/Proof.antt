@@ -28,11 +28,11 @@ count-genuine-requires c κs = search needs
 
 returns : tie.Need-returns
 returns c =
-    let b = now (c .before .before .before .before .before .args .messages) in
-    let o : Octets b = λ i. omega (arith, c .before .before .before .before .shared-slice-known .given i) in
-    let ready = c .before .before .prepare .ensures in
+    let b = now (c .before .before .before .before .args .messages) in
+    let o : Octets b = λ i. omega (arith, c .before .before .before .shared-slice-known .given i) in
+    let ready = c .before .prepare .ensures in
     c .count-genuine .ensures
-    ∙ ap₂ (λ (u p : Prepared). genuineCountBy u p (messagesIn b)) (c .before .before .before .default-key .ensures) (ready .made)
+    ∙ ap₂ (λ (u p : Prepared). genuineCountBy u p (messagesIn b)) (c .before .before .default-key .ensures) (ready .made)
     ∙ count-true benchKey b (ready .octets) refl o (length b / 48) 0
 
 pub bench-genuine-spec : {M : Type 1} → statement M
