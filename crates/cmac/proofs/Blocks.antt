@@ -19,7 +19,7 @@ use Rattle.aes.proofs.Blocks.{words}
 use Rattle.aes.proofs.Each.{both, alike}
 use Rattle.aes.proofs.Xor.{xor-assoc}
 use Rattle.cmac.specs.Mac.{paddedAt, blockAt, before}
-use Rattle.cmac.specs.Tags.{wordAt, chainedBy, lastBlockBy, blockBy, tagBy, doubledWords, preparedBy, messageOf, tagsBy}
+use Rattle.cmac.specs.Tags.{wordAt, chainedBy, lastBlockBy, tagBy, doubledWords, preparedBy, messageOf, tagsBy}
 use Rattle.cmac.specs.declared.Prepared.{Prepared}
 
 joined-of : {a b c d e f g h : ℕ} → a ≡ e → b ≡ f → c ≡ g → d ≡ h → joined a b c d ≡ joined e f g h
@@ -70,37 +70,6 @@ pub subkey-first : (x k b : Words) → added (added x k) b ≡ added x (added b 
 subkey-first x k b =
     words (turn (x .a) (k .a) (b .a)) (turn (x .b) (k .b) (b .b)) (turn (x .c) (k .c) (b .c)) (turn (x .d) (k .d) (b .d))
 
--- X after the first i blocks, the last one among them
-unfoldable pub reached : Prepared → List ℕ → ℕ → Words
-reached p m zero = noWords
-reached p m (suc i) = cipherOn (p .key) (added (reached p m i) (blockBy p m i))
-
-pub next-reached : (p : Prepared) (m : List ℕ) (i : ℕ)
-    → reached p m (i + 1) ≡ cipherOn (p .key) (added (reached p m i) (blockBy p m i))
-unfolding reached
-next-reached p m i = rw add-one
-
-inner-block : (p : Prepared) (m : List ℕ) (i : ℕ) → i < before m → blockBy p m i ≡ wordsOf (blockAt m (i * 16))
-unfolding blockBy
-inner-block p m i h = simp (lt-ltb i (before m) h)
-
-last-block : (p : Prepared) (m : List ℕ) → blockBy p m (before m) ≡ lastBlockBy p m (before m * 16)
-unfolding blockBy
-last-block p m = simp (le-ltb (before m) (before m) (omega arith))
-
-reached-before : (p : Prepared) (m : List ℕ) (i : ℕ) → i ≤ before m → reached p m i ≡ chainedBy (p .key) m i
-unfolding reached chainedBy
-reached-before p m zero h = refl
-reached-before p m (suc i) h =
-    ap (cipherOn (p .key)) (ap₂ added (reached-before p m i (omega arith)) (inner-block p m i (omega arith)))
-
--- after all of them it is the tag
-pub reached-all : (p : Prepared) (m : List ℕ) → reached p m (before m + 1) ≡ tagBy p m
-unfolding tagBy
-reached-all p m =
-    next-reached p m (before m)
-    ∙ ap (cipherOn (p .key)) (ap₂ added (reached-before p m (before m) (omega arith)) (last-block p m))
-
 pub prepared-of : (k l k1 k2 : Words) → l ≡ cipherOn k noWords → k1 ≡ doubledWords l → k2 ≡ doubledWords k1
     → _≡_ {A = Prepared} (record { key = k; whole = k1; padded = k2 }) (preparedBy k)
 unfolding preparedBy
@@ -116,22 +85,7 @@ zeros i (suc n) (suc (suc zero)) = refl
 zeros i (suc n) (suc (suc (suc zero))) = refl
 zeros i (suc n) (suc (suc (suc (suc k)))) = ap (λ (l : List ℕ). 0 ∷ 0 ∷ 0 ∷ 0 ∷ l) (zeros (suc i) n k)
 
-module _ (p : Prepared) (ms : List ℕ) (size n : ℕ) where
-  pub none-reached : replicate 32 0 ≡ each n (λ j x. reached p (messageOf ms size j) 0) (replicate 32 0)
-  unfolding reached
-  none-reached = sym (zeros 0 n 32)
-
-  -- a block more
-  pub next-each : (i : ℕ) (s t u : List ℕ) → s ≡ each n (λ j x. reached p (messageOf ms size j) i) (replicate 32 0)
-      → t ≡ each n (λ j x. added x (blockBy p (messageOf ms size j) i)) s → u ≡ each n (λ j x. cipherOn (p .key) x) t
-      → u ≡ each n (λ j x. reached p (messageOf ms size j) (i + 1)) (replicate 32 0)
-  unfolding reached
-  next-each i s t u es et eu =
-      eu ∙ ap (each n (λ j x. cipherOn (p .key) x)) (et ∙ ap (each n (λ j x. added x (blockBy p (messageOf ms size j) i))) es)
-      ∙ ap (each n (λ j x. cipherOn (p .key) x)) (both 0 n (λ j x. added x (blockBy p (messageOf ms size j) i)) (λ j x. reached p (messageOf ms size j) i) (replicate 32 0))
-      ∙ both 0 n (λ j x. cipherOn (p .key) x) (λ j x. added (reached p (messageOf ms size j) i) (blockBy p (messageOf ms size j) i)) (replicate 32 0)
-      ∙ sym (ap (λ (k : ℕ). each n (λ j x. reached p (messageOf ms size j) k) (replicate 32 0)) (add-one i))
-
+module _ (ms : List ℕ) (size n : ℕ) where
   pub shared : 0 < n → size ≡ length ms / n → n * size ≤ length ms
   shared h e = subst (λ (x : ℕ). x ≤ length ms) (mul-comm (length ms / n) n ∙ ap (λ (x : ℕ). n * x) (sym e)) (div-mul-le-self (length ms) n)
 
@@ -143,16 +97,42 @@ module _ (p : Prepared) (ms : List ℕ) (size n : ℕ) where
   pub length-of : n * size ≤ length ms → (j : ℕ) → j < n → length (messageOf ms size j) ≡ size
   length-of h j hj = length-take-le size (drop (j * size) ms) (omega (arith, length-drop (j * size) ms, within-all h j hj))
 
-  -- all of them
-  pub all-reached : n * size ≤ length ms → (i : ℕ) → i ≡ (size - 1) / 16 + 1
-      → each n (λ j x. reached p (messageOf ms size j) i) (replicate 32 0) ≡ each n (λ j x. tagBy p (messageOf ms size j)) (replicate 32 0)
-  unfolding before
-  all-reached h i e =
-      alike 0 n (λ j x. reached p (messageOf ms size j) i) (λ j x. tagBy p (messageOf ms size j)) (replicate 32 0)
+module _ (p : Prepared) (ms : List ℕ) (size n : ℕ) where
+  pub none-chained : replicate 32 0 ≡ each n (λ j x. chainedBy (p .key) (messageOf ms size j) 0) (replicate 32 0)
+  unfolding chainedBy
+  none-chained = sym (zeros 0 n 32)
+
+  -- what is added and enciphered, at each of them
+  one-more : (f g : ℕ → Words) (s t u : List ℕ) → s ≡ each n (λ j x. f j) (replicate 32 0) → t ≡ each n (λ j x. added x (g j)) s
+      → u ≡ each n (λ j x. cipherOn (p .key) x) t → u ≡ each n (λ j x. cipherOn (p .key) (added (f j) (g j))) (replicate 32 0)
+  one-more f g s t u es et eu =
+      eu ∙ ap (each n (λ j x. cipherOn (p .key) x)) (et ∙ ap (each n (λ j x. added x (g j))) es ∙ both 0 n (λ j x. added x (g j)) (λ j x. f j) (replicate 32 0))
+      ∙ both 0 n (λ j x. cipherOn (p .key) x) (λ j x. added (f j) (g j)) (replicate 32 0)
+
+  -- a block more
+  pub next-chained : (i : ℕ) (s t u : List ℕ) → s ≡ each n (λ j x. chainedBy (p .key) (messageOf ms size j) i) (replicate 32 0)
+      → t ≡ each n (λ j x. added x (wordsOf (blockAt (messageOf ms size j) (i * 16)))) s → u ≡ each n (λ j x. cipherOn (p .key) x) t
+      → u ≡ each n (λ j x. chainedBy (p .key) (messageOf ms size j) (i + 1)) (replicate 32 0)
+  unfolding chainedBy
+  next-chained i s t u es et eu =
+      one-more (λ j. chainedBy (p .key) (messageOf ms size j) i) (λ j. wordsOf (blockAt (messageOf ms size j) (i * 16))) s t u es et eu
+      ∙ sym (ap (λ (k : ℕ). each n (λ j x. chainedBy (p .key) (messageOf ms size j) k) (replicate 32 0)) (add-one i))
+
+  -- and the last
+  pub all-tagged : n * size ≤ length ms → (i : ℕ) (s t u : List ℕ) → i ≡ (size - 1) / 16
+      → s ≡ each n (λ j x. chainedBy (p .key) (messageOf ms size j) i) (replicate 32 0)
+      → t ≡ each n (λ j x. added x (lastBlockBy p (messageOf ms size j) (i * 16))) s → u ≡ each n (λ j x. cipherOn (p .key) x) t
+      → u ≡ each n (λ j x. tagBy p (messageOf ms size j)) (replicate 32 0)
+  unfolding tagBy before
+  all-tagged h i s t u e es et eu =
+      one-more (λ j. chainedBy (p .key) (messageOf ms size j) i) (λ j. lastBlockBy p (messageOf ms size j) (i * 16)) s t u es et eu
+      ∙ alike 0 n (λ j x. cipherOn (p .key) (added (chainedBy (p .key) (messageOf ms size j) i) (lastBlockBy p (messageOf ms size j) (i * 16))))
+      (λ j x. tagBy p (messageOf ms size j)) (replicate 32 0)
       (λ j hj x.
       let m = messageOf ms size (0 + j) in
-      let l : length m ≡ size = length-of h (0 + j) (omega arith) in
-      ap (reached p m) (e ∙ ap (λ (k : ℕ). (k - 1) / 16 + 1) (sym l)) ∙ reached-all p m)
+      let l : length m ≡ size = length-of ms size n h (0 + j) (omega arith) in
+      let b : i ≡ (length m - 1) / 16 = e ∙ ap (λ (k : ℕ). (k - 1) / 16) (sym l) in
+      ap (λ (k : ℕ). cipherOn (p .key) (added (chainedBy (p .key) m k) (lastBlockBy p m (k * 16)))) b)
 
 -- a message by itself
 pub alone : (p : Prepared) (m : List ℕ) → tagsBy p m 1 ≡ each 1 (λ j x. tagBy p m) (replicate 32 0)

@@ -6,7 +6,7 @@ use mathlib.Core.Bool.{cond}
 use mathlib.Core.Path.{_≡_}
 use mathlib.Core.List.{List}
 use lib.ListN.{length, take, drop, replicate}
-use lib.Dec.{eqb, ltb}
+use lib.Dec.{eqb}
 use lib.Bits.{bitXor}
 use Rattle.aes.specs.Words.{joined, octetsOf, wordsOf, added, noWords, Octets}
 use Rattle.aes.specs.OnWords.{cipherOn}
@@ -52,10 +52,6 @@ chainedBy k m (suc i) = cipherOn k (added (chainedBy k m i) (wordsOf (blockAt m 
 
 unfoldable pub lastBlockBy : Prepared → List ℕ → ℕ → Words
 lastBlockBy p m j = added (wordsOf (blockAt m j)) (cond (eqb (length m) (j + 16)) (p .whole) (p .padded))
-
--- block i as it is enciphered: the last one with its subkey
-unfoldable pub blockBy : Prepared → List ℕ → ℕ → Words
-blockBy p m i = cond (ltb i (before m)) (wordsOf (blockAt m (i * 16))) (lastBlockBy p m (i * 16))
 
 unfoldable pub tagBy : Prepared → List ℕ → Words
 tagBy p m = cipherOn (p .key) (added (chainedBy (p .key) m (before m)) (lastBlockBy p m (before m * 16)))

@@ -6,7 +6,7 @@ ghost use lib.ListN.{length, take};
 ghost use Rattle.aes.specs.Words.{octetsOf, wordsOf, added};
 ghost use Rattle.cmac.specs.Mac.{paddedAt, blockAt, cmac};
 ghost use Rattle.aes.specs.Blocks.{mostBlocks, each};
-ghost use Rattle.cmac.specs.Tags.{shiftedWord, lastWord, doubledWords, Ready, wordAt, lastBlockBy, blockBy, macBy, mac64By, messageOf, tagBy, tagsBy};
+ghost use Rattle.cmac.specs.Tags.{shiftedWord, lastWord, doubledWords, Ready, wordAt, lastBlockBy, macBy, mac64By, messageOf, tagBy, tagsBy};
 use aes::Words;
 
 // The key, and its subkeys K1 for a whole last block and K2 for a padded one.
@@ -140,36 +140,32 @@ fn add_last(key: Prepared, x: Words, m: &[u8], j: usize) -> Words
     }
 }
 
-fn add_next(key: Prepared, x: Words, m: &[u8], i: usize, n: usize) -> Words
-    requires { ⌜ (i ≤ n) × (n ≡ (length (now m) - 1) / 16) ⌝ }
-    ensures { λ r. ⌜ r ≡ added x (blockBy key (now (m .entry)) i) ⌝ }
-{
-    if i < n {
-        add_whole(x, m, i * 16)
-    } else {
-        add_last(key, x, m, i * 16)
-    }
-}
-
-// Block i of each of n messages of `size` octets, `before` of whose blocks come before the last.
-fn add_each(
-    key: Prepared,
-    ms: &[u8],
-    size: usize,
-    i: usize,
-    before: usize,
-    n: usize,
-    xs: &mut [u32; 32],
-)
-    requires { ⌜ (n ≤ mostBlocks) × (n * size ≤ length (now ms)) × (i ≤ before) × (before ≡ (size - 1) / 16) × (length (now xs) ≡ 32) ⌝ }
-    ensures { λ _. ⌜ now (xs .exit) ≡ each n (λ j x. added x (blockBy key (messageOf (now (ms .entry)) size j) i)) (now (xs .entry)) ⌝ }
+// Block i of each of n messages of `size` octets, which is not the last.
+fn add_whole_each(ms: &[u8], size: usize, i: usize, n: usize, xs: &mut [u32; 32])
+    requires { ⌜ (n ≤ mostBlocks) × (n * size ≤ length (now ms)) × (i * 16 + 16 ≤ size) × (length (now xs) ≡ 32) ⌝ }
+    ensures { λ _. ⌜ now (xs .exit) ≡ each n (λ j x. added x (wordsOf (blockAt (messageOf (now (ms .entry)) size j) (i * 16)))) (now (xs .entry)) ⌝ }
 {
     let mut j: usize = 0;
     while j < n {
         let at = j * size;
         let end = at + size;
         let x = aes::block(xs, j);
-        aes::put(xs, j, add_next(key, x, &ms[at..end], i, before));
+        aes::put(xs, j, add_whole(x, &ms[at..end], i * 16));
+        j += 1;
+    }
+}
+
+// The last one, which starts at octet `last`.
+fn add_last_each(key: Prepared, ms: &[u8], size: usize, last: usize, n: usize, xs: &mut [u32; 32])
+    requires { ⌜ (n ≤ mostBlocks) × (n * size ≤ length (now ms)) × (last ≤ size) × (length (now xs) ≡ 32) ⌝ }
+    ensures { λ _. ⌜ now (xs .exit) ≡ each n (λ j x. added x (lastBlockBy key (messageOf (now (ms .entry)) size j) last)) (now (xs .entry)) ⌝ }
+{
+    let mut j: usize = 0;
+    while j < n {
+        let at = j * size;
+        let end = at + size;
+        let x = aes::block(xs, j);
+        aes::put(xs, j, add_last(key, x, &ms[at..end], last));
         j += 1;
     }
 }
@@ -187,11 +183,13 @@ pub fn tags(key: Prepared, ms: &[u8], count: usize) -> [u32; 32]
     let before = blocks_before(size);
     let k = key.key;
     let mut i: usize = 0;
-    while i <= before {
-        add_each(key, ms, size, i, before, n, &mut xs);
+    while i < before {
+        add_whole_each(ms, size, i, n, &mut xs);
         aes::encipher(k, n, &mut xs);
         i += 1;
     }
+    add_last_each(key, ms, size, before * 16, n, &mut xs);
+    aes::encipher(k, n, &mut xs);
     xs
 }
 

@@ -1,4 +1,4 @@
--- `cmac::add_each` meets its contract.
+-- `cmac::add_last_each` meets its contract.
 -- Assumes nothing.
 use mathlib.Core.Path.{_≡_, _∙_, refl, sym, ap}
 use mathlib.Core.List.{List}
@@ -10,24 +10,24 @@ use Rattle.aes.specs.Words.{added}
 use Rattle.aes.specs.Blocks.{withBlock, blockIn, each}
 use Rattle.aes.specs.declared.Words.{Words}
 use Rattle.aes.proofs.Each.{next-each}
-use Rattle.cmac.specs.Tags.{blockBy, messageOf}
+use Rattle.cmac.specs.Tags.{lastBlockBy, messageOf}
 use Rattle.cmac.proofs.Blocks.{within-all, length-of}
 use borrow.Author.Needs.{needs}
-use Rattle.cmac.proofs.add_each.Statement.{statement}
-use Rattle.cmac.proofs.add_each.Tie as tie
+use Rattle.cmac.proofs.add_last_each.Statement.{statement}
+use Rattle.cmac.proofs.add_last_each.Tie as tie
 
 abbrev Inv-loop : tie.InvT-loop
-Inv-loop key ms size i before n xs₀ j₀ xs j = (j ≤ n) × (xs ≡ each j (λ k x. added x (blockBy key (messageOf ms size k) i)) xs₀)
+Inv-loop key ms size last n xs₀ j₀ xs j = (j ≤ n) × (xs ≡ each j (λ k x. added x (lastBlockBy key (messageOf ms size k) last)) xs₀)
 
 abbrev μ-loop : tie.MeasureT-loop
-μ-loop key ms size i before n xs₀ j₀ xs j = n - j
+μ-loop key ms size last n xs₀ j₀ xs j = n - j
 
 -- message j stands within the slice
 inside : (c : tie.In-loop Inv-loop μ-loop)
     → c .before .loop .j * c .before .before .before .args .size + c .before .before .before .args .size ≤ length (now (c .before .before .before .args .ms))
 inside c =
     let a = c .before .before .before .args in
-    within-all (a .key) (now (a .ms)) (a .size) (a .n) (c .before .before .before .pre .1) (c .before .loop .j) (search needs)
+    within-all (now (a .ms)) (a .size) (a .n) (c .before .before .before .pre .1) (c .before .loop .j) (search needs)
 
 loop-holds : tie.Need-loop-holds Inv-loop μ-loop
 loop-holds c = (omega arith, refl)
@@ -41,25 +41,20 @@ add-end c = record { fits = omega (arith, inside c, c .before .before .before .g
 block-requires : tie.Need-block-requires Inv-loop μ-loop
 block-requires c κs = search needs
 
-sub-add-next : tie.Need-sub-add-next Inv-loop μ-loop
-sub-add-next c = search needs
+sub-add-last : tie.Need-sub-add-last Inv-loop μ-loop
+sub-add-last c = search needs
 
-part-add-next-start : tie.Need-part-add-next-start Inv-loop μ-loop
-part-add-next-start c = let h = inside (c .before .before .before) in search needs
+part-add-last-start : tie.Need-part-add-last-start Inv-loop μ-loop
+part-add-last-start c = let h = inside (c .before .before .before) in search needs
 
-part-add-next-end : tie.Need-part-add-next-end Inv-loop μ-loop
-part-add-next-end c = let h = inside (c .before .before .before) in search needs
+part-add-last-end : tie.Need-part-add-last-end Inv-loop μ-loop
+part-add-last-end c = let h = inside (c .before .before .before) in search needs
 
-add-next-requires : tie.Need-add-next-requires Inv-loop μ-loop
-add-next-requires c κs =
+add-last-requires : tie.Need-add-last-requires Inv-loop μ-loop
+add-last-requires c κs =
     let a = c .before .before .before .before .before .before .before .args in
-    let j = c .before .before .before .before .before .loop .j in
     let pre = c .before .before .before .before .before .before .before .pre in
-    let e : j * a .size + a .size - j * a .size ≡ a .size = omega arith in
-    let l = length-of (a .key) (now (a .ms)) (a .size) (a .n) (pre .1) j (search needs) in (
-      pre .2,
-      pre .3 ∙ ap (λ (k : ℕ). (k - 1) / 16) (sym (ap (λ (k : ℕ). length (take k (drop (j * a .size) (now (a .ms))))) e ∙ l)),
-    )
+    omega (arith, pre .2, c .before .before .before .before .before .before .before .fits .size, inside (c .before .before .before .before), c .before .before .before .before .before .before .before .good .1 .0 .1)
 
 put-requires : tie.Need-put-requires Inv-loop μ-loop
 put-requires c κs = search needs
@@ -75,14 +70,14 @@ loop-again c =
     let l = c .before .before .before .before .before .before .before .loop in
     let a = c .before .before .before .before .before .before .before .before .before .args in
     let ms = now (a .ms) in
-    let f : ℕ → Words → Words = λ k x. added x (blockBy (a .key) (messageOf ms (a .size) k) (a .i)) in
+    let f : ℕ → Words → Words = λ k x. added x (lastBlockBy (a .key) (messageOf ms (a .size) k) (a .last)) in
     let e : l .j * a .size + a .size - l .j * a .size ≡ a .size = omega arith in (
       omega arith,
-      next-each f (now (a .xs)) (l .xs) (c .put .last .0) (l .j) (c .before .before .before .before .before .before .before .before .before .pre .4) (omega arith) (l .inv .1)
+      next-each f (now (a .xs)) (l .xs) (c .put .last .0) (l .j) (c .before .before .before .before .before .before .before .before .before .pre .3) (omega arith) (l .inv .1)
           (c .put .ensures
           ∙ ap (withBlock (l .xs) (l .j % 8))
-          (c .before .add-next .ensures
-          ∙ ap (λ (k : ℕ). added (c .before .before .before .before .block .result) (blockBy (a .key) (take k (drop (l .j * a .size) ms)) (a .i))) e
+          (c .before .add-last .ensures
+          ∙ ap (λ (k : ℕ). added (c .before .before .before .before .block .result) (lastBlockBy (a .key) (take k (drop (l .j * a .size) ms)) (a .last))) e
           ∙ ap (f (l .j)) (c .before .before .before .before .block .ensures))),
     )
 
@@ -91,10 +86,10 @@ returns c =
     let l = c .before .loop in
     let a = c .before .before .before .args in
     let e : l .j ≡ a .n = omega arith in
-    l .inv .1 ∙ ap (λ (k : ℕ). each k (λ j x. added x (blockBy (a .key) (messageOf (now (a .ms)) (a .size) j) (a .i))) (now (a .xs))) e
+    l .inv .1 ∙ ap (λ (k : ℕ). each k (λ j x. added x (lastBlockBy (a .key) (messageOf (now (a .ms)) (a .size) j) (a .last))) (now (a .xs))) e
 
-pub add-each-spec : {M : Type 1} → statement M
-add-each-spec =
+pub add-last-each-spec : {M : Type 1} → statement M
+add-last-each-spec =
     tie.close
     (tie.spec
     Inv-loop
@@ -103,10 +98,10 @@ add-each-spec =
     mul-at
     add-end
     block-requires
-    sub-add-next
-    part-add-next-start
-    part-add-next-end
-    add-next-requires
+    sub-add-last
+    part-add-last-start
+    part-add-last-end
+    add-last-requires
     put-requires
     add-j
     loop-less
