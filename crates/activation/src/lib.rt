@@ -178,10 +178,6 @@ pub fn receive_all(s: Station, messages: &[u8]) -> Station
     }
     let usual = integrity::default_key();
     let key = link.key;
-    let octets = key.octets;
-    // Asked at two places, so that the compiler calls it: merged into the frame call it takes registers from the walks.
-    if key.held {
-        return receive_each(usual, prepared(octets), s, messages, first);
-    }
-    receive_each(usual, usual, s, messages, first)
+    let installed = installed_key(usual, key);
+    receive_each(usual, installed, s, messages, first)
 }

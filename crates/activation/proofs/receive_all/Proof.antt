@@ -1,7 +1,6 @@
 -- `activation::receive_all` meets its contract.
 -- Assumes nothing.
-use mathlib.Core.Path.{_≡_, _∙_, refl, sym, ap}
-use mathlib.Core.Bool.{false≢true}
+use mathlib.Core.Path.{_∙_, ap}
 use native.Mathlib.Omega.{arith}
 use mathlib.Core.List.{List}
 use Prim.Native.Nat.{ℕ, _/_}
@@ -30,41 +29,23 @@ returns c =
 default-key-requires : tie.Need-default-key-requires
 default-key-requires c κs = search needs
 
-prepared-requires : tie.Need-prepared-requires
-prepared-requires c κs = search needs
+installed-key-requires : tie.Need-installed-key-requires
+installed-key-requires c κs = search needs
 
 receive-each-requires : tie.Need-receive-each-requires
 receive-each-requires c κs = search needs
 
 returns-2 : tie.Need-returns-2
 returns-2 c =
-    let a = c .before .before .before .before .before .before .before .before .before .before .before .before .before .args in
+    let a = c .before .before .before .before .before .before .before .before .before .before .before .args in
     let b = now (a .messages) in
-    let u = c .before .before .before .before .before .default-key in
-    let p = c .before .prepared in
-    let o : Octets b = λ i. omega (arith, c .before .before .before .before .before .before .before .before .before .before .before .before .shared-slice-known .given i) in
+    let u = c .before .before .before .default-key in
+    let p = c .before .installed-key in
+    let o : Octets b = λ i. omega (arith, c .before .before .before .before .before .before .before .before .before .before .shared-slice-known .given i) in
     c .receive-each .ensures
-    ∙ start-passed b (length b / 48) _ (a .s) _ (c .before .before .before .before .before .before .before .before .is-full .ensures) (c .before .before .before .before .before .before .before .past-inert .ensures) (u .result) (p .result)
+    ∙ start-passed b (length b / 48) _ (a .s) _ (c .before .before .before .before .before .before .is-full .ensures) (c .before .before .before .before .before .past-inert .ensures) (u .result) (p .result)
     ∙ ap (λ (x : Prepared). receivedAllBy x (p .result) (a .s) b) (u .ensures)
-    ∙ each-true (p .result) b o (length b / 48) 0 (a .s)
-    (key-is (u .result) (a .s .link .key) (p .result) (u .ensures)
-    (record { own = λ e. p .ensures; none = λ e. absurd (false≢true (sym e ∙ c .before .before .if2 .taken)) }))
-
-receive-each-requires-2 : tie.Need-receive-each-requires-2
-receive-each-requires-2 c κs = search needs
-
-returns-3 : tie.Need-returns-3
-returns-3 c =
-    let a = c .before .before .before .before .before .before .before .before .before .before .before .before .args in
-    let b = now (a .messages) in
-    let u = c .before .before .before .before .default-key in
-    let o : Octets b = λ i. omega (arith, c .before .before .before .before .before .before .before .before .before .before .before .shared-slice-known .given i) in
-    c .receive-each2 .ensures
-    ∙ start-passed b (length b / 48) _ (a .s) _ (c .before .before .before .before .before .before .before .is-full .ensures) (c .before .before .before .before .before .before .past-inert .ensures) (u .result) (u .result)
-    ∙ ap (λ (x : Prepared). receivedAllBy x (u .result) (a .s) b) (u .ensures)
-    ∙ each-true (u .result) b o (length b / 48) 0 (a .s)
-    (key-is (u .result) (a .s .link .key) (u .result) (u .ensures)
-    (record { own = λ e. absurd (false≢true (sym (c .before .if2 .left) ∙ e)); none = λ e. refl }))
+    ∙ each-true (p .result) b o (length b / 48) 0 (a .s) (key-is (u .result) (a .s .link .key) (p .result) (u .ensures) (p .ensures))
 
 pub receive-all-spec : {M : Type 1} → statement M
 receive-all-spec =
@@ -74,8 +55,6 @@ receive-all-spec =
     past-inert-requires
     returns
     default-key-requires
-    prepared-requires
+    installed-key-requires
     receive-each-requires
-    returns-2
-    receive-each-requires-2
-    returns-3)
+    returns-2)
