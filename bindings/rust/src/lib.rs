@@ -18,7 +18,7 @@ pub const FRAME_MOST: usize = 135_432;
 /// caller's own frames need comes on top.
 pub mod stack {
     pub const POWER_ON: usize = 624;
-    pub const FRAME: usize = 10_296;
+    pub const FRAME: usize = 3_848;
     pub const LOST: usize = 1_584;
     pub const ADD_PORT: usize = 1_856;
     pub const REMOVE_PORT: usize = 1_856;
