@@ -53,6 +53,19 @@ extern "C" {
 #define LINGBARROW_AT_ONU_ID 49  /* 2 bytes: 1023 while none is held */
 #define LINGBARROW_AT_DELAY 84   /* 4 bytes: equalization delay in bit times */
 
+/* Bytes of stack that a call takes at most, its arguments and return address included, as measured on this build by tests/stack,
+ * which fails if a call takes more. What the caller's own frames, a signal handler or an interrupt need comes on top. */
+#define LINGBARROW_STACK_POWER_ON 624
+#define LINGBARROW_STACK_FRAME 3848
+#define LINGBARROW_STACK_LOST 1584
+#define LINGBARROW_STACK_ADD_PORT 1856
+#define LINGBARROW_STACK_REMOVE_PORT 1856
+#define LINGBARROW_STACK_GIVE_KEY 1600
+#define LINGBARROW_STACK_STRETCH 1200
+#define LINGBARROW_STACK_WRITE_HLEND 160
+#define LINGBARROW_STACK_WRITE_ALLOCATION 192
+#define LINGBARROW_STACK_WRITE_XGEM_FRAME 208
+
 /* A station in O1 with nothing held. 0, or 3 and nothing is changed. The port memory may hold anything. */
 uint8_t lingbarrow_power_on(uint8_t *state, size_t state_length, const uint8_t *serial, size_t serial_length,
                             const uint8_t *registration, size_t registration_length);

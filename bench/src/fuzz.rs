@@ -82,11 +82,11 @@ fn make_frame(rng: &mut Rng, s: &Station) -> Vec<u8> {
         f = f.entry(a);
         at = at.wrapping_add(rng.pick(&[0, 2, 14, 60, 400, 4000]));
     }
-    for _ in 0..rng.pick(&[0u64, 0, 1, 1, 2, 4, 10]) {
+    for _ in 0..rng.pick(&[0u64, 0, 1, 1, 2, 4, 10, 10, 40, 130, 255]) {
         let to = OnuId(rng.pick(&[s.onu_id.0, s.onu_id.0, s.onu_id.0, 1023, 77]));
         let seq = rng.next() as u8;
         let own = if rng.once_in(5) { [9; 8] } else { s.serial };
-        let m = match rng.below(9) {
+        let mut m = match rng.below(9) {
             0 | 1 => headend::assign_onu_id(seq, rng.pick(&[0, 5, 77, 1022, 1023]), &own),
             2 | 3 => headend::ranging_time(to, seq, rng.pick(&[0x80, 0x80, 0, 0x40, 0xC0, 1]), rng.next() as u32, if to.0 == 1023 { &[0x55; 16] } else { &key }),
             4 | 5 => headend::assign_alloc_id(to, seq, rng.pick(&[1023, 1024, 1025, 2000, 16383, 1030, 1031, 1032, 1033, 1034]), rng.pick(&[1, 1, 1, 255, 7]), &key),
@@ -98,6 +98,10 @@ fn make_frame(rng: &mut Rng, s: &Station) -> Vec<u8> {
             },
             _ => headend::sealed(to, rng.next() as u8, seq, &[], if to.0 == 1023 { &[0x55; 16] } else { &key }),
         };
+        // one that is not right among others that are
+        if rng.once_in(9) {
+            m[40 + rng.below(8) as usize] ^= 1 << rng.below(8);
+        }
         f = f.message(m);
     }
     let ports: Vec<u16> = [s.onu_id.0, s.onu_id.0, 65535, 3000, 1023]

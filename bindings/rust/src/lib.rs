@@ -14,6 +14,21 @@ pub const REPLY_BYTES: usize = 192;
 /// A frame has 4 bytes to so many, a multiple of 4.
 pub const FRAME_MOST: usize = 135_432;
 
+/// Bytes of stack that each call of the library takes at most, as the C header has them. What a wrapper takes for itself and what the
+/// caller's own frames need comes on top.
+pub mod stack {
+    pub const POWER_ON: usize = 624;
+    pub const FRAME: usize = 3_848;
+    pub const LOST: usize = 1_584;
+    pub const ADD_PORT: usize = 1_856;
+    pub const REMOVE_PORT: usize = 1_856;
+    pub const GIVE_KEY: usize = 1_600;
+    pub const STRETCH: usize = 1_200;
+    pub const WRITE_HLEND: usize = 160;
+    pub const WRITE_ALLOCATION: usize = 192;
+    pub const WRITE_XGEM_FRAME: usize = 208;
+}
+
 /// Names a station on the branch.
 #[derive(Clone, Copy, PartialEq, Eq, Debug, Hash)]
 pub struct OnuId(pub u16);

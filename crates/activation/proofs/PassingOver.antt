@@ -17,7 +17,7 @@ use Rattle.ploam.specs.declared.Content.{Content}
 use Rattle.ploam.specs.declared.Content.the-variants.{Profile, AssignOnuId, RangingTime, DeactivateOnuId, DisableSerialNumber, RequestRegistration, AssignAllocId, KeyControl, SleepAllow, Unknown}
 use Rattle.ploam.specs.declared.Message.{Message}
 use Rattle.ploam.specs.declared.Received.the-variants.{Whole, Short}
-use Rattle.ploam.specs.Layout.{messageOctets, addressOf, typeOf}
+use Rattle.ploam.specs.Layout.{messageOctets, messageAt, addressOf, typeOf}
 use Rattle.ploam.specs.Reading.{contentAs, messageOf, received}
 use Rattle.station.specs.declared.Station.{Station}
 use Rattle.link.specs.declared.Allocs.{Allocs}
@@ -39,7 +39,7 @@ use Rattle.decisions.specs.Decisions.{found, assignOnuId, allocChange, assignAl
 use Rattle.decisions.specs.Decisions.{byContent, isBroadcast, isOurs, effectOf, fitting, decision}
 use Rattle.decisions.specs.Acts.{act}
 use Rattle.decisions.proofs.Acting.{act-ignored}
-use Rattle.activation.specs.Receiving.{acting, receive, messageAt, messagesFrom, receiveAll, receivedBy, receivedEachBy}
+use Rattle.activation.specs.Receiving.{acting, receive, messagesFrom, receiveAll, receivedBy, receivedEachBy}
 use Rattle.activation.specs.Inert.{fullOf, inert, pastInert}
 use Rattle.activation.proofs.Receiving.{each-turn}
 
@@ -171,10 +171,10 @@ unfolding receive
 receive-inert s m h = acting-inert s _ m h
 
 pub inert-leaves
-    : (t : List ℕ) (usual installed : Prepared) (s : Station) (m : List ℕ) → inert (s .link .onu) (fullOf (s .link .owed)) m ≡ true
-    → receivedBy t usual installed s m ≡ s
+    : (usual installed : Prepared) (s : Station) (m : List ℕ) → inert (s .link .onu) (fullOf (s .link .owed)) m ≡ true
+    → receivedBy usual installed s m ≡ s
 unfolding receivedBy
-inert-leaves t usual installed s m h = acting-inert s _ m h
+inert-leaves usual installed s m h = acting-inert s _ m h
 
 -- ---- and the messages from the next that may act on are all that there is to do
 
@@ -198,9 +198,9 @@ module _ (onu : OnuId) (full : Bool) (b : List ℕ) where
   pub past-end : (n i : ℕ) → n ≤ i → i ≡ pastInert onu full b i (n - i)
   past-end n i h = let k : n - i ≡ 0 = omega arith in rw k
 
-  module _ (t : List ℕ) (usual installed : Prepared) (s : Station) (eo : onu ≡ s .link .onu) (ef : full ≡ fullOf (s .link .owed)) where
+  module _ (usual installed : Prepared) (s : Station) (eo : onu ≡ s .link .onu) (ef : full ≡ fullOf (s .link .owed)) where
     abbrev After : ℕ → ℕ → Station
-    After i k = receivedEachBy t usual installed s (messagesFrom b i k)
+    After i k = receivedEachBy usual installed s (messagesFrom b i k)
 
     pub passed-over : (n k i : ℕ) → k ≡ n - i → After (pastInert onu full b i k) (n - pastInert onu full b i k) ≡ After i k
     passed-over n zero i e = ap (After i) (sym e)
@@ -212,34 +212,34 @@ module _ (onu : OnuId) (full : Bool) (b : List ℕ) where
             → After (cond x r i) (n - cond x r i) ≡ After i (suc k)
         go true h r p =
             let l : inert (s .link .onu) (fullOf (s .link .owed)) (messageAt b i) ≡ true = rw (sym eo, sym ef) h in
-            p ∙ ap (λ (x : Station). receivedEachBy t usual installed x (messagesFrom b (i + 1) k)) (sym (inert-leaves t usual installed s (messageAt b i) l))
+            p ∙ ap (λ (x : Station). receivedEachBy usual installed x (messagesFrom b (i + 1) k)) (sym (inert-leaves usual installed s (messageAt b i) l))
         go false h r p = ap (After i) (sym e)
 
 -- ---- one turn: a message, and past the inert ones after it
 
-module _ (t : List ℕ) (usual installed : Prepared) (b : List ℕ) (n i j : ℕ) (r : Station) (full : Bool) (ej : j ≡ pastInert (r .link .onu) full b (i + 1) (n - (i + 1))) where
+module _ (usual installed : Prepared) (b : List ℕ) (n i j : ℕ) (r : Station) (full : Bool) (ej : j ≡ pastInert (r .link .onu) full b (i + 1) (n - (i + 1))) where
   pub turn-on : i + 1 ≤ j
   turn-on = rw ej (past-from (r .link .onu) full b (n - (i + 1)) (i + 1))
 
   pub turn-passed
-      : (s : Station) → i < n → r ≡ receivedBy t usual installed s (messageAt b i) → full ≡ fullOf (r .link .owed)
-      → receivedEachBy t usual installed r (messagesFrom b j (n - j)) ≡ receivedEachBy t usual installed s (messagesFrom b i (n - i))
+      : (s : Station) → i < n → r ≡ receivedBy usual installed s (messageAt b i) → full ≡ fullOf (r .link .owed)
+      → receivedEachBy usual installed r (messagesFrom b j (n - j)) ≡ receivedEachBy usual installed s (messagesFrom b i (n - i))
   turn-passed s h er ef =
-      ap (λ (k : ℕ). receivedEachBy t usual installed r (messagesFrom b k (n - k))) ej
-      ∙ passed-over (r .link .onu) full b t usual installed r refl ef n (n - (i + 1)) (i + 1) refl
-      ∙ each-turn t usual installed b n i s r h er
+      ap (λ (k : ℕ). receivedEachBy usual installed r (messagesFrom b k (n - k))) ej
+      ∙ passed-over (r .link .onu) full b usual installed r refl ef n (n - (i + 1)) (i + 1) refl
+      ∙ each-turn usual installed b n i s r h er
 
 -- ---- the whole: from the first message that may act on, or nothing where there is none
 
 module _ (b : List ℕ) (n first : ℕ) (s : Station) (full : Bool) (ef : full ≡ fullOf (s .link .owed)) (e : first ≡ pastInert (s .link .onu) full b 0 (n - 0)) where
   pub start-passed
-      : (t : List ℕ) (usual installed : Prepared)
-      → receivedEachBy t usual installed s (messagesFrom b first (n - first)) ≡ receivedEachBy t usual installed s (messagesFrom b 0 n)
-  start-passed t usual installed =
+      : (usual installed : Prepared)
+      → receivedEachBy usual installed s (messagesFrom b first (n - first)) ≡ receivedEachBy usual installed s (messagesFrom b 0 n)
+  start-passed usual installed =
       let z : n - 0 ≡ n = omega arith in
-      ap (λ (k : ℕ). receivedEachBy t usual installed s (messagesFrom b k (n - k))) e
-      ∙ passed-over (s .link .onu) full b t usual installed s refl ef n (n - 0) 0 refl
-      ∙ ap (λ (k : ℕ). receivedEachBy t usual installed s (messagesFrom b 0 k)) z
+      ap (λ (k : ℕ). receivedEachBy usual installed s (messagesFrom b k (n - k))) e
+      ∙ passed-over (s .link .onu) full b usual installed s refl ef n (n - 0) 0 refl
+      ∙ ap (λ (k : ℕ). receivedEachBy usual installed s (messagesFrom b 0 k)) z
 
   all-inert : (k i : ℕ) → i + k ≤ pastInert (s .link .onu) full b i k → receiveAll s (messagesFrom b i k) ≡ s
   all-inert zero i h = refl

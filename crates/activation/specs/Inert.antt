@@ -6,10 +6,9 @@ use mathlib.Core.List.{List}
 use lib.Dec.{eqb, leb}
 use Rattle.ids.specs.declared.OnuId.{OnuId}
 use Rattle.ids.specs.Ids.{sameOnu, broadcastOnu}
-use Rattle.ploam.specs.Layout.{addressOf, typeOf, deactivateOnuId}
+use Rattle.ploam.specs.Layout.{messageAt, addressOf, typeOf, deactivateOnuId}
 use Rattle.link.specs.declared.Queue.{Queue}
 use Rattle.link.specs.Limits.{mostOwed}
-use Rattle.activation.specs.Receiving.{messageAt}
 
 abbrev pub fullOf : Queue → Bool
 fullOf owed = leb mostOwed (owed .count)

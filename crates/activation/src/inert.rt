@@ -10,13 +10,13 @@ use link::Queue;
 use ploam::DEACTIVATE_ONU_ID;
 use ploam::MESSAGE_OCTETS;
 
-fn address(high: u8, low: u8) -> OnuId
+pub(crate) fn address(high: u8, low: u8) -> OnuId
     ensures { λ r. ⌜ r .0 ≡ (high * 256 + low) % 1024 ⌝ }
 {
     OnuId((high as u16 * 256 + low as u16) % 1024)
 }
 
-fn is_inert(onu: OnuId, full: bool, m: &[u8]) -> bool
+pub(crate) fn is_inert(onu: OnuId, full: bool, m: &[u8]) -> bool
     requires { ⌜ messageOctets ≤ length (now m) ⌝ }
     ensures { λ r. ⌜ r ≡ inert onu full (now (m .entry)) ⌝ }
 {

@@ -1,16 +1,17 @@
 // The messages of a frame act one after another, each on the state left by the last.
 ghost use mathlib.Core.Bool.{Bool};
 ghost use mathlib.Core.Path.{_≡_};
-ghost use Prim.Native.Nat.{_-_, _/_};
+ghost use Prim.Native.Nat.{_-_, _/_, _≤_};
 ghost use lib.ListN.{length};
-ghost use Rattle.cmac.specs.ByTable.{Ready};
+ghost use Rattle.cmac.specs.Tags.{Ready};
 ghost use Rattle.link.specs.Limits.{keyOctets};
-ghost use Rattle.effects.specs.Effects.{ignored};
 ghost use Rattle.effects.specs.Changes.{applied};
 ghost use Rattle.activation.specs.Asking.{askedOf};
-ghost use Rattle.ploam.specs.Layout.{messageOctets};
-ghost use Rattle.activation.specs.Receiving.{messagesFrom, genuineNow, receivedBy, receivedEachBy, AllReceived};
+ghost use Rattle.ploam.specs.Layout.{messageOctets, messageAt};
+ghost use Rattle.activation.specs.Receiving.{messagesFrom, receivedBy, receivedEachBy, Installed, AllReceived};
+ghost use Rattle.activation.specs.Checking.{verdictAt, Known, Askable};
 
+mod checking;
 mod inert;
 pub mod replying;
 
@@ -18,48 +19,69 @@ use cmac::Prepared;
 use effects::Change;
 use effects::Debt;
 use effects::Effect;
-use integrity::Direction;
+use link::Key;
 use ploam::MESSAGE_OCTETS;
 use ploam::Received;
 use station::Station;
 
-// The key that counts is the one held as the message is considered.
-fn genuine_now(t: &[u32; 1024], usual: Prepared, installed: Prepared, held: bool, m: &[u8]) -> bool
-    ensures { λ r. ⌜ r ≡ genuineNow (now (t .entry)) usual installed held (now (m .entry)) ⌝ }
-{
-    if held {
-        return integrity::genuine(t, usual, installed, m);
-    }
-    integrity::mic_right(t, usual, Direction::Downstream, m)
+// What a message does, and where the window of verdicts then begins.
+pub struct Outcome {
+    pub effect: Effect,
+    pub base: usize,
 }
 
-fn ignored() -> Effect
-    ensures { λ r. ⌜ r ≡ ignored ⌝ }
+// Message i. The integrity check is made last: it costs most, and a failed test of any kind ignores the message.
+fn considered(
+    usual: Prepared,
+    installed: Prepared,
+    s: Station,
+    messages: &[u8],
+    i: usize,
+    base: usize,
+    marks: &mut [u8; 64],
+) -> Outcome
+    requires { ⌜ Askable (verdictAt usual installed (now messages)) (length (now messages) / messageOctets) base i (now marks) ⌝ }
+    ensures { λ r. ⌜ (applied s (r .effect) ≡ receivedBy usual installed s (messageAt (now (messages .entry)) i)) × (r .base ≤ i) × (Known (verdictAt usual installed (now (messages .entry))) (r .base) (now (marks .exit))) ⌝ }
 {
-    Effect {
-        change: Change::Keep,
-        debt: Debt::Free,
-    }
-}
-
-// What a message does. The integrity check is made last: it costs most, and a failed test of any kind ignores the message.
-fn considered(t: &[u32; 1024], usual: Prepared, installed: Prepared, s: Station, m: &[u8]) -> Effect
-    ensures { λ r. ⌜ applied s r ≡ receivedBy (now (t .entry)) usual installed s (now (m .entry)) ⌝ }
-{
-    match ploam::reading::read(m) {
+    let at = MESSAGE_OCTETS * i;
+    let end = at + MESSAGE_OCTETS;
+    match ploam::reading::read(&messages[at..end]) {
         Received::Whole(message) => {
             let e = decisions::decide(s, message);
             if e.is_ignored() {
-                return ignored();
+                return Outcome {
+                    effect: e,
+                    base: base,
+                };
             }
             let link = s.link;
-            let key = link.key;
-            if genuine_now(t, usual, installed, key.held, m) {
-                return e;
+            let onu = link.onu;
+            let owed = link.owed;
+            let start = checking::know(
+                usual,
+                installed,
+                onu,
+                inert::is_full(owed),
+                messages,
+                i,
+                base,
+                marks,
+            );
+            if marks[i - start] == integrity::RIGHT {
+                return Outcome {
+                    effect: e,
+                    base: start,
+                };
             }
-            ignored()
+            Outcome {
+                effect: effects::ignored(),
+                base: start,
+            }
         }
-        Received::Short => ignored(),
+        Received::Short => Outcome {
+            effect: effects::ignored(),
+            base: base,
+        },
     }
 }
 
@@ -92,22 +114,23 @@ fn asked_by(e: Effect) -> Asked
 
 // From the message `first` on.
 fn receive_each(
-    t: &[u32; 1024],
     usual: Prepared,
     installed: Prepared,
     s: Station,
     messages: &[u8],
     first: usize,
 ) -> Station
-    ensures { λ r. ⌜ r ≡ receivedEachBy (now (t .entry)) usual installed s (messagesFrom (now (messages .entry)) first (length (now (messages .entry)) / messageOctets - first)) ⌝ }
+    ensures { λ r. ⌜ r ≡ receivedEachBy usual installed s (messagesFrom (now (messages .entry)) first (length (now (messages .entry)) / messageOctets - first)) ⌝ }
 {
     let n = messages.len() / MESSAGE_OCTETS;
     let mut next = s;
     let mut i = first;
+    let mut base = first;
+    let mut marks = [integrity::NOT_ASKED; 64];
     while i < n {
-        let at = MESSAGE_OCTETS * i;
-        let end = at + MESSAGE_OCTETS;
-        let e = considered(t, usual, installed, next, &messages[at..end]);
+        let c = considered(usual, installed, next, messages, i, base, &mut marks);
+        base = c.base;
+        let e = c.effect;
         match asked_by(e) {
             Asked::Nothing => {}
             Asked::Delay(delay) => {
@@ -125,14 +148,24 @@ fn receive_each(
     next
 }
 
-fn prepared(t: &[u32; 1024], octets: [u8; 16]) -> Prepared
-    ensures { λ r. ⌜ (Ready (now (t .entry)) octets r) × (length octets ≡ keyOctets) ⌝ }
+fn prepared(octets: [u8; 16]) -> Prepared
+    ensures { λ r. ⌜ (Ready octets r) × (length octets ≡ keyOctets) ⌝ }
 {
-    cmac::prepare(t, octets)
+    cmac::prepare(octets)
 }
 
-// What follows the last whole message is not looked at. No key is prepared, and the table of AES not named, where no message
-// may act.
+// The key held, or the default where none is.
+pub fn installed_key(usual: Prepared, key: Key) -> Prepared
+    ensures { λ r. ⌜ Installed usual key r ⌝ }
+{
+    let octets = key.octets;
+    if key.held {
+        return prepared(octets);
+    }
+    usual
+}
+
+// What follows the last whole message is not looked at. No key is prepared where no message may act.
 pub fn receive_all(s: Station, messages: &[u8]) -> Station
     ensures { λ r. ⌜ AllReceived s (now (messages .entry)) r ⌝ }
 {
@@ -143,13 +176,8 @@ pub fn receive_all(s: Station, messages: &[u8]) -> Station
     if messages.len() / MESSAGE_OCTETS <= first {
         return s;
     }
-    let t = aes::mix::table();
     let usual = integrity::default_key();
     let key = link.key;
-    let octets = key.octets;
-    if key.held {
-        let installed = prepared(&t, octets);
-        return receive_each(&t, usual, installed, s, messages, first);
-    }
-    receive_each(&t, usual, usual, s, messages, first)
+    let installed = installed_key(usual, key);
+    receive_each(usual, installed, s, messages, first)
 }

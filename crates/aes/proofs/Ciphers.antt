@@ -1,23 +1,23 @@
--- By `mixTable` the cipher of specs/ByTable is AES-128: a column, a round, a round key, the rounds, the block.
+-- The cipher of specs/OnWords is AES-128: a column, a round, a round key, the rounds, the block.
 -- Assumes nothing.
 use mathlib.Core.Path.{_≡_, refl, sym, ap, ap₂, _∙_}
 use mathlib.Core.List.{List}
 use Prim.Native.Nat.{ℕ, zero, suc, _+_, _*_, _/_, _%_, _<_, _≤_}
 use native.Mathlib.Omega.{arith}
-use lib.Bits.{bitXor, xor-comm}
+use lib.Bits.{bitXor, xor-comm, xor-zero-r}
 use lib.ListN.{getD}
-use Rattle.aes.specs.Field.{sBox, xtime}
+use Rattle.subbytes.specs.Field.{sBox, xtime}
+use Rattle.subbytes.proofs.SboxRule.{sBox-byte, xtime-byte}
+use Rattle.mixcolumns.specs.Columns.{joined, turned, mixOf}
 use Rattle.aes.specs.Cipher.{at, mixed, shiftRows, subBytes, addRoundKey, roundOf, lastOf, nextKey, rcon, roundKey, rounds, aes128}
-use Rattle.aes.specs.Words.{joined, octet0, octet1, octet2, octet3, octetsOf, added, noWords, Four}
-use Rattle.aes.specs.ByTable.{mixOf, turned, entryOf, columnBy, roundBy, subBy, lastColumnBy, lastBy, turnedWordBy, nextKeyBy, roundKeyBy, roundKeysBy, firstRoundsBy, cipherBy}
-use Rattle.aes.specs.MixTable.{mixTable}
+use Rattle.aes.specs.Words.{octet0, octet1, octet2, octet3, octetsOf, added, Four}
+use Rattle.aes.specs.OnWords.{columnOn, roundOn, lastColumnOn, lastOn, turnedWordOn, nextKeyOn, roundKeyOn, roundsOn, cipherOn}
 use Rattle.aes.specs.declared.Words.{Words}
-use Rattle.aes.proofs.Bytes.{row0, row1, row2, row3, sBox-byte, xtime-byte, rcon-byte}
 use Rattle.aes.proofs.Octets.{xor-byte, xor0, xor1, xor2, xor3, turned-joined, four, sixteen, added-octets}
 use Rattle.aes.proofs.Xor.{xor-assoc}
 
 -- the rows in the order of the table's entries, and in that of 5.1.3 from row r on
-sum1 : (a p q d : ℕ) → bitXor (bitXor (bitXor a p) q) d ≡ bitXor (bitXor (bitXor p q) d) a
+pub sum1 : (a p q d : ℕ) → bitXor (bitXor (bitXor a p) q) d ≡ bitXor (bitXor (bitXor p q) d) a
 sum1 a p q d =
     ap (λ (x : ℕ). bitXor x d) (xor-assoc a p q) ∙ xor-assoc a (bitXor p q) d ∙ xor-comm a (bitXor (bitXor p q) d)
 
@@ -41,7 +41,7 @@ five f law p q r s k =
 
 -- one, two and three times the S-box value of an octet
 abbrev one : ℕ → ℕ
-one x = sBox (x % 256)
+one x = sBox x
 
 abbrev two : ℕ → ℕ
 two x = xtime (one x)
@@ -49,59 +49,60 @@ two x = xtime (one x)
 abbrev three : ℕ → ℕ
 three x = bitXor (two x) (one x)
 
-one-byte : (x : ℕ) → one x < 256
-one-byte x = sBox-byte (x % 256) (omega arith)
+module _ (x : ℕ) (h : x < 256) where
+  pub one-byte : one x < 256
+  one-byte = sBox-byte x h
 
-two-byte : (x : ℕ) → two x < 256
-two-byte x = xtime-byte (one x) (one-byte x)
+  two-byte : two x < 256
+  two-byte = xtime-byte (one x) one-byte
 
-three-byte : (x : ℕ) → three x < 256
-three-byte x = xor-byte (two-byte x) (one-byte x)
+  three-byte : three x < 256
+  three-byte = xor-byte two-byte one-byte
 
--- an entry of each row
-joined0 : (x : ℕ) → entryOf mixTable 0 x ≡ joined (two x) (one x) (one x) (three x)
-unfolding mixOf
-joined0 x = row0 x
+  -- its column in each row
+  mix0 : Four (mixOf x) (two x) (one x) (one x) (three x)
+  unfolding mixOf
+  mix0 = four refl two-byte one-byte one-byte three-byte
 
-turned1 : (x : ℕ) → turned (mixOf (x % 256)) ≡ joined (three x) (two x) (one x) (one x)
-unfolding mixOf
-turned1 x = turned-joined (two x) (one x) (one x) (three x) (three-byte x)
+  turned1 : turned (mixOf x) ≡ joined (three x) (two x) (one x) (one x)
+  unfolding mixOf
+  turned1 = turned-joined (two x) (one x) (one x) (three x) three-byte
 
-turned2 : (x : ℕ) → turned (turned (mixOf (x % 256))) ≡ joined (one x) (three x) (two x) (one x)
-turned2 x = ap turned (turned1 x) ∙ turned-joined (three x) (two x) (one x) (one x) (one-byte x)
+  mix1 : Four (turned (mixOf x)) (three x) (two x) (one x) (one x)
+  mix1 = four turned1 three-byte two-byte one-byte one-byte
 
-turned3 : (x : ℕ) → turned (turned (turned (mixOf (x % 256)))) ≡ joined (one x) (one x) (three x) (two x)
-turned3 x = ap turned (turned2 x) ∙ turned-joined (one x) (three x) (two x) (one x) (one-byte x)
+  turned2 : turned (turned (mixOf x)) ≡ joined (one x) (three x) (two x) (one x)
+  turned2 = ap turned turned1 ∙ turned-joined (three x) (two x) (one x) (one x) one-byte
 
-joined1 : (x : ℕ) → entryOf mixTable 256 x ≡ joined (three x) (two x) (one x) (one x)
-joined1 x = row1 x ∙ turned1 x
+  mix2 : Four (turned (turned (mixOf x))) (one x) (three x) (two x) (one x)
+  mix2 = four turned2 one-byte three-byte two-byte one-byte
 
-joined2 : (x : ℕ) → entryOf mixTable 512 x ≡ joined (one x) (three x) (two x) (one x)
-joined2 x = row2 x ∙ turned2 x
-
-joined3 : (x : ℕ) → entryOf mixTable 768 x ≡ joined (one x) (one x) (three x) (two x)
-joined3 x = row3 x ∙ turned3 x
+  mix3 : Four (turned (turned (turned (mixOf x)))) (one x) (one x) (three x) (two x)
+  mix3 =
+      four (ap turned turned2 ∙ turned-joined (one x) (three x) (two x) (one x) one-byte) one-byte one-byte three-byte
+      two-byte
 
 -- 5.1.3 and 5.1.4: a column of a round
 mixed-column : (a b c d k : ℕ)
-    → Four (columnBy mixTable a b c d k)
+    → Four (columnOn a b c d k)
     (bitXor (mixed (sBox (octet0 a)) (sBox (octet1 b)) (sBox (octet2 c)) (sBox (octet3 d))) (octet0 k))
     (bitXor (mixed (sBox (octet1 b)) (sBox (octet2 c)) (sBox (octet3 d)) (sBox (octet0 a))) (octet1 k))
     (bitXor (mixed (sBox (octet2 c)) (sBox (octet3 d)) (sBox (octet0 a)) (sBox (octet1 b))) (octet2 k))
     (bitXor (mixed (sBox (octet3 d)) (sBox (octet0 a)) (sBox (octet1 b)) (sBox (octet2 c))) (octet3 k))
-unfolding columnBy
+unfolding columnOn
 mixed-column a b c d k =
-    let p = a / 16777216 in
-    let q = b / 65536 in
-    let r = c / 256 in
-    let e0 = entryOf mixTable 0 p in
-    let e1 = entryOf mixTable 256 q in
-    let e2 = entryOf mixTable 512 r in
-    let e3 = entryOf mixTable 768 d in
-    let f0 = four (joined0 p) (two-byte p) (one-byte p) (one-byte p) (three-byte p) in
-    let f1 = four (joined1 q) (three-byte q) (two-byte q) (one-byte q) (one-byte q) in
-    let f2 = four (joined2 r) (one-byte r) (three-byte r) (two-byte r) (one-byte r) in
-    let f3 = four (joined3 d) (one-byte d) (one-byte d) (three-byte d) (two-byte d) in
+    let p = octet0 a in
+    let q = octet1 b in
+    let r = octet2 c in
+    let s = octet3 d in
+    let e0 = mixOf p in
+    let e1 = turned (mixOf q) in
+    let e2 = turned (turned (mixOf r)) in
+    let e3 = turned (turned (turned (mixOf s))) in
+    let f0 = mix0 p (omega arith) in
+    let f1 = mix1 q (omega arith) in
+    let f2 = mix2 r (omega arith) in
+    let f3 = mix3 s (omega arith) in
     record {
       at0 =
           five octet0 xor0 e0 e1 e2 e3 k
@@ -109,48 +110,40 @@ mixed-column a b c d k =
       at1 =
           five octet1 xor1 e0 e1 e2 e3 k
           ∙ ap (λ (x : ℕ). bitXor x (octet1 k))
-          (ap₂ bitXor (ap₂ bitXor (ap₂ bitXor (f0 .at1) (f1 .at1)) (f2 .at1)) (f3 .at1) ∙ sum1 (one p) (two q) (three r) (one d));
+          (ap₂ bitXor (ap₂ bitXor (ap₂ bitXor (f0 .at1) (f1 .at1)) (f2 .at1)) (f3 .at1) ∙ sum1 (one p) (two q) (three r) (one s));
       at2 =
           five octet2 xor2 e0 e1 e2 e3 k
           ∙ ap (λ (x : ℕ). bitXor x (octet2 k))
-          (ap₂ bitXor (ap₂ bitXor (ap₂ bitXor (f0 .at2) (f1 .at2)) (f2 .at2)) (f3 .at2) ∙ sum2 (one p) (one q) (two r) (three d));
+          (ap₂ bitXor (ap₂ bitXor (ap₂ bitXor (f0 .at2) (f1 .at2)) (f2 .at2)) (f3 .at2) ∙ sum2 (one p) (one q) (two r) (three s));
       at3 =
           five octet3 xor3 e0 e1 e2 e3 k
           ∙ ap (λ (x : ℕ). bitXor x (octet3 k))
-          (ap₂ bitXor (ap₂ bitXor (ap₂ bitXor (f0 .at3) (f1 .at3)) (f2 .at3)) (f3 .at3) ∙ sum3 (three p) (one q) (one r) (two d));
+          (ap₂ bitXor (ap₂ bitXor (ap₂ bitXor (f0 .at3) (f1 .at3)) (f2 .at3)) (f3 .at3) ∙ sum3 (three p) (one q) (one r) (two s));
     }
 
-pub round-is : (s k : Words) → octetsOf (roundBy mixTable s k) ≡ roundOf (octetsOf s) (octetsOf k)
-unfolding roundBy roundOf
+pub round-is : (s k : Words) → octetsOf (roundOn s k) ≡ roundOf (octetsOf s) (octetsOf k)
+unfolding roundOn roundOf
 round-is s k =
-    sixteen {w = roundBy mixTable s k} (mixed-column (s .a) (s .b) (s .c) (s .d) (k .a))
+    sixteen {w = roundOn s k} (mixed-column (s .a) (s .b) (s .c) (s .d) (k .a))
     (mixed-column (s .b) (s .c) (s .d) (s .a) (k .b)) (mixed-column (s .c) (s .d) (s .a) (s .b) (k .c))
     (mixed-column (s .d) (s .a) (s .b) (s .c) (k .d))
 
--- 5.1.1: the S-box in the table
-pub sub-is : (x : ℕ) → subBy mixTable x ≡ one x
-sub-is x = four (joined0 x) (two-byte x) (one-byte x) (one-byte x) (three-byte x) .at2
-
-joined-of : {a b c d e f g h : ℕ} → a ≡ e → b ≡ f → c ≡ g → d ≡ h → joined a b c d ≡ joined e f g h
-joined-of p q r s =
-    ap₂ (λ (x y : ℕ). x * 256 + y) (ap₂ (λ (x y : ℕ). x * 256 + y) (ap₂ (λ (x y : ℕ). x * 256 + y) p q) r) s
-
-last-column : (a b c d : ℕ)
-    → Four (lastColumnBy mixTable a b c d) (sBox (octet0 a)) (sBox (octet1 b)) (sBox (octet2 c)) (sBox (octet3 d))
-unfolding lastColumnBy
+pub last-column : (a b c d : ℕ)
+    → Four (lastColumnOn a b c d) (sBox (octet0 a)) (sBox (octet1 b)) (sBox (octet2 c)) (sBox (octet3 d))
+unfolding lastColumnOn
 last-column a b c d =
-    four (joined-of (sub-is (a / 16777216)) (sub-is (b / 65536)) (sub-is (c / 256)) (sub-is d)) (one-byte (a / 16777216))
-    (one-byte (b / 65536)) (one-byte (c / 256)) (one-byte d)
+    four refl (one-byte (octet0 a) (omega arith)) (one-byte (octet1 b) (omega arith)) (one-byte (octet2 c) (omega arith))
+    (one-byte (octet3 d) (omega arith))
 
-pub last-is : (s k : Words) → octetsOf (lastBy mixTable s k) ≡ lastOf (octetsOf s) (octetsOf k)
-unfolding lastBy lastOf
+pub last-is : (s k : Words) → octetsOf (lastOn s k) ≡ lastOf (octetsOf s) (octetsOf k)
+unfolding lastOn lastOf
 last-is s k =
     let w : Words =
     record {
-      a = lastColumnBy mixTable (s .a) (s .b) (s .c) (s .d);
-      b = lastColumnBy mixTable (s .b) (s .c) (s .d) (s .a);
-      c = lastColumnBy mixTable (s .c) (s .d) (s .a) (s .b);
-      d = lastColumnBy mixTable (s .d) (s .a) (s .b) (s .c);
+      a = lastColumnOn (s .a) (s .b) (s .c) (s .d);
+      b = lastColumnOn (s .b) (s .c) (s .d) (s .a);
+      c = lastColumnOn (s .c) (s .d) (s .a) (s .b);
+      d = lastColumnOn (s .d) (s .a) (s .b) (s .c);
     }
     in
     added-octets w k
@@ -160,12 +153,26 @@ last-is s k =
 
 -- 5.2: each word of a round key is the sum of the one above it and the one before it
 turned-word : (d rc : ℕ) → rc < 256
-    → Four (turnedWordBy mixTable d rc) (bitXor (sBox (octet1 d)) rc) (sBox (octet2 d)) (sBox (octet3 d)) (sBox (octet0 d))
-unfolding turnedWordBy
+    → Four (bitXor (turnedWordOn d) (rc * 16777216)) (bitXor (sBox (octet1 d)) rc) (sBox (octet2 d)) (sBox (octet3 d))
+    (sBox (octet0 d))
+unfolding turnedWordOn
 turned-word d rc h =
-    four
-    (joined-of (ap (λ (x : ℕ). bitXor x rc) (sub-is (d / 65536))) (sub-is (d / 256)) (sub-is d) (sub-is (d / 16777216)))
-    (xor-byte (one-byte (d / 65536)) h) (one-byte (d / 256)) (one-byte d) (one-byte (d / 16777216))
+    let w = turnedWordOn d in
+    let v = rc * 16777216 in
+    let f : Four w (sBox (octet1 d)) (sBox (octet2 d)) (sBox (octet3 d)) (sBox (octet0 d)) =
+    four refl (one-byte (octet1 d) (omega arith)) (one-byte (octet2 d) (omega arith)) (one-byte (octet3 d) (omega arith))
+    (one-byte (octet0 d) (omega arith))
+    in
+    let v0 : octet0 v ≡ rc = omega arith in
+    let v1 : octet1 v ≡ 0 = omega arith in
+    let v2 : octet2 v ≡ 0 = omega arith in
+    let v3 : octet3 v ≡ 0 = omega arith in
+    record {
+      at0 = xor0 w v ∙ ap₂ bitXor (f .at0) v0;
+      at1 = xor1 w v ∙ ap₂ bitXor (f .at1) v1 ∙ xor-zero-r (sBox (octet2 d));
+      at2 = xor2 w v ∙ ap₂ bitXor (f .at2) v2 ∙ xor-zero-r (sBox (octet3 d));
+      at3 = xor3 w v ∙ ap₂ bitXor (f .at3) v3 ∙ xor-zero-r (sBox (octet0 d));
+    }
 
 above : {w x0 x1 x2 x3 : ℕ} (v : ℕ) → Four w x0 x1 x2 x3
     → Four (bitXor v w) (bitXor (octet0 v) x0) (bitXor (octet1 v) x1) (bitXor (octet2 v) x2) (bitXor (octet3 v) x3)
@@ -177,46 +184,34 @@ above {w} v p =
       at3 = xor3 v w ∙ ap (λ (x : ℕ). bitXor (octet3 v) x) (p .at3);
     }
 
-pub next-key-is : (k : Words) (rc : ℕ) → rc < 256 → octetsOf (nextKeyBy mixTable k rc) ≡ nextKey (octetsOf k) rc
-unfolding nextKeyBy
+pub next-key-is : (k : Words) (rc : ℕ) → rc < 256 → octetsOf (nextKeyOn k rc) ≡ nextKey (octetsOf k) rc
+unfolding nextKeyOn
 next-key-is k rc h =
     let a = above (k .a) (turned-word (k .d) rc h) in
     let b = above (k .b) a in
     let c = above (k .c) b in
-    sixteen {w = nextKeyBy mixTable k rc} a b c (above (k .d) c)
+    sixteen {w = nextKeyOn k rc} a b c (above (k .d) c)
 
-pub round-key-is : (k : Words) (i : ℕ) → octetsOf (roundKeyBy mixTable k i) ≡ roundKey i (octetsOf k)
-unfolding roundKeyBy roundKey
-round-key-is k zero = refl
-round-key-is k (suc i) =
-    next-key-is (roundKeyBy mixTable k i) (rcon i) (rcon-byte i)
-    ∙ ap (λ (l : List ℕ). nextKey l (rcon i)) (round-key-is k i)
+pub rcon-byte : (i : ℕ) → rcon i < 256
+unfolding rcon
+rcon-byte zero = omega arith
+rcon-byte (suc i) = xtime-byte (rcon i) (rcon-byte i)
+
+pub round-key-is : (i : ℕ) (k : Words) → octetsOf (roundKeyOn i k) ≡ roundKey i (octetsOf k)
+unfolding roundKeyOn roundKey
+round-key-is zero k = refl
+round-key-is (suc i) k =
+    next-key-is (roundKeyOn i k) (rcon i) (rcon-byte i) ∙ ap (λ (l : List ℕ). nextKey l (rcon i)) (round-key-is i k)
+
+rounds-are : (i : ℕ) (k s : Words) → octetsOf (roundsOn i k s) ≡ rounds i (octetsOf k) (octetsOf s)
+unfolding roundsOn rounds
+rounds-are zero k s = refl
+rounds-are (suc i) k s =
+    round-is (roundsOn i k s) (roundKeyOn (suc i) k) ∙ ap₂ roundOf (rounds-are i k s) (round-key-is (suc i) k)
 
 -- for every key and every block
-pub by-mix-table : (k s : Words)
-    → octetsOf (cipherBy mixTable (roundKeysBy mixTable k) s) ≡ aes128 (octetsOf k) (octetsOf s)
-unfolding cipherBy firstRoundsBy roundKeysBy aes128 rounds
-by-mix-table k s =
-    let t = mixTable in
-    let key = roundKeyBy t k in
-    let s0 = added s k in
-    let s1 = roundBy t s0 (key 1) in
-    let s2 = roundBy t s1 (key 2) in
-    let s3 = roundBy t s2 (key 3) in
-    let s4 = roundBy t s3 (key 4) in
-    let s5 = roundBy t s4 (key 5) in
-    let s6 = roundBy t s5 (key 6) in
-    let s7 = roundBy t s6 (key 7) in
-    let s8 = roundBy t s7 (key 8) in
-    let s9 = roundBy t s8 (key 9) in
-    let e0 = added-octets s k in
-    let e1 = round-is s0 (key 1) ∙ ap₂ roundOf e0 (round-key-is k 1) in
-    let e2 = round-is s1 (key 2) ∙ ap₂ roundOf e1 (round-key-is k 2) in
-    let e3 = round-is s2 (key 3) ∙ ap₂ roundOf e2 (round-key-is k 3) in
-    let e4 = round-is s3 (key 4) ∙ ap₂ roundOf e3 (round-key-is k 4) in
-    let e5 = round-is s4 (key 5) ∙ ap₂ roundOf e4 (round-key-is k 5) in
-    let e6 = round-is s5 (key 6) ∙ ap₂ roundOf e5 (round-key-is k 6) in
-    let e7 = round-is s6 (key 7) ∙ ap₂ roundOf e6 (round-key-is k 7) in
-    let e8 = round-is s7 (key 8) ∙ ap₂ roundOf e7 (round-key-is k 8) in
-    let e9 = round-is s8 (key 9) ∙ ap₂ roundOf e8 (round-key-is k 9) in
-    last-is s9 (key 10) ∙ ap₂ lastOf e9 (round-key-is k 10)
+pub on-words : (k s : Words) → octetsOf (cipherOn k s) ≡ aes128 (octetsOf k) (octetsOf s)
+unfolding cipherOn aes128
+on-words k s =
+    last-is (roundsOn 9 k (added s k)) (roundKeyOn 10 k)
+    ∙ ap₂ lastOf (rounds-are 9 k (added s k) ∙ ap (rounds 9 (octetsOf k)) (added-octets s k)) (round-key-is 10 k)

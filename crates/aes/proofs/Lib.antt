@@ -1,8 +1,8 @@
 pub mod Blocks
-pub mod Rounds
 pub mod Xor
-pub mod Entries
-pub mod Bytes
 pub mod Octets
 pub mod Ciphers
+pub mod Turns
+pub mod Each
+pub mod Rounds
 pub mod Determined

@@ -8,7 +8,7 @@ use lib.Bits.{bitXor, xor-lt, xor-shr, xor-mod}
 use lib.ListN.{length, getD}
 use Rattle.aes.specs.Cipher.{at, tabulate, block, addRoundKey}
 use Rattle.aes.specs.Words.{joined, octet0, octet1, octet2, octet3, octetsOf, wordsOf, added, Octets, Four}
-use Rattle.aes.specs.ByTable.{turned}
+use Rattle.mixcolumns.specs.Columns.{turned}
 use Rattle.aes.specs.declared.Words.{Words}
 use Rattle.aes.proofs.Blocks.{then, done}
 

@@ -1,30 +1,48 @@
--- The eleven round keys, each made from the one before.
+-- One round after another: the next round key, and the blocks after it.
 -- Assumes nothing.
-use mathlib.Core.Path.{_≡_, _∙_, ap}
+use mathlib.Core.Path.{_≡_, refl, sym, ap, ap₂, _∙_}
 use mathlib.Core.List.{List}
-use Prim.Native.Nat.{ℕ}
-use Rattle.aes.specs.Field.{xtime}
+use Prim.Native.Nat.{ℕ, suc, _+_}
+use native.Mathlib.Numerals.{add-one}
+use native.Mathlib.Omega.{arith}
+use Rattle.subbytes.specs.Field.{xtime}
 use Rattle.aes.specs.Cipher.{rcon}
-use Rattle.aes.specs.ByTable.{nextKeyBy, roundKeyBy, roundKeysBy}
-use Rattle.aes.specs.declared.RoundKeys.{RoundKeys}
+use Rattle.aes.specs.Words.{added}
+use Rattle.aes.specs.OnWords.{roundOn, lastOn, nextKeyOn, roundKeyOn, roundsOn, cipherOn}
+use Rattle.aes.specs.Blocks.{each}
 use Rattle.aes.specs.declared.Words.{Words}
-use Rattle.aes.proofs.Blocks.{round-keys}
+use Rattle.aes.proofs.Each.{both, same}
 
-pub eleven : (t : List ℕ) (k0 k1 k2 k3 k4 k5 k6 k7 k8 k9 k10 : Words) → k1 ≡ nextKeyBy t k0 1 → k2 ≡ nextKeyBy t k1 2
-    → k3 ≡ nextKeyBy t k2 4 → k4 ≡ nextKeyBy t k3 8 → k5 ≡ nextKeyBy t k4 16 → k6 ≡ nextKeyBy t k5 32
-    → k7 ≡ nextKeyBy t k6 64 → k8 ≡ nextKeyBy t k7 128 → k9 ≡ nextKeyBy t k8 27 → k10 ≡ nextKeyBy t k9 54
-    → _≡_ {A = RoundKeys}
-    (record { first = record { k0 = k0; k1 = k1; k2 = k2; k3 = k3; k4 = k4; k5 = k5 }; last = record { k6 = k6; k7 = k7; k8 = k8; k9 = k9; k10 = k10 } })
-    (roundKeysBy t k0)
-unfolding roundKeysBy roundKeyBy rcon xtime
-eleven t k0 k1 k2 k3 k4 k5 k6 k7 k8 k9 k10 e1 p2 p3 p4 p5 p6 p7 p8 p9 p10 =
-    let e2 = p2 ∙ ap (λ k. nextKeyBy t k 2) e1 in
-    let e3 = p3 ∙ ap (λ k. nextKeyBy t k 4) e2 in
-    let e4 = p4 ∙ ap (λ k. nextKeyBy t k 8) e3 in
-    let e5 = p5 ∙ ap (λ k. nextKeyBy t k 16) e4 in
-    let e6 = p6 ∙ ap (λ k. nextKeyBy t k 32) e5 in
-    let e7 = p7 ∙ ap (λ k. nextKeyBy t k 64) e6 in
-    let e8 = p8 ∙ ap (λ k. nextKeyBy t k 128) e7 in
-    let e9 = p9 ∙ ap (λ k. nextKeyBy t k 27) e8 in
-    let e10 = p10 ∙ ap (λ k. nextKeyBy t k 54) e9 in
-    round-keys e1 e2 e3 e4 e5 e6 e7 e8 e9 e10
+pub next-constant : (rc d r : ℕ) → rc ≡ rcon r → d ≡ xtime rc → d ≡ rcon (r + 1)
+unfolding rcon
+next-constant rc d r p q = q ∙ ap xtime p ∙ sym (ap rcon (add-one r))
+
+pub next-round-key : (key k w : Words) (rc r : ℕ) → k ≡ roundKeyOn r key → rc ≡ rcon r → w ≡ nextKeyOn k rc
+    → w ≡ roundKeyOn (r + 1) key
+unfolding roundKeyOn
+next-round-key key k w rc r p q e = e ∙ ap₂ nextKeyOn p q ∙ sym (ap (λ (i : ℕ). roundKeyOn i key) (add-one r))
+
+pub no-rounds : (n : ℕ) (key : Words) (l : List ℕ) → l ≡ each n (λ i x. roundsOn 0 key x) l
+unfolding roundsOn
+no-rounds n key l = sym (same 0 n l)
+
+pub no-round-key : (key : Words) → key ≡ roundKeyOn 0 key
+unfolding roundKeyOn
+no-round-key key = refl
+
+module _ (n : ℕ) (key k : Words) (r : ℕ) (l s t : List ℕ) (ek : k ≡ roundKeyOn (r + 1) key) (es : s ≡ each n (λ i x. roundsOn r key x) l) where
+  pub next-rounds : t ≡ each n (λ i x. roundOn x k) s → t ≡ each n (λ i x. roundsOn (r + 1) key x) l
+  unfolding roundsOn
+  next-rounds et =
+      et ∙ ap₂ (λ (w : Words) (u : List ℕ). each n (λ i x. roundOn x w) u) (ek ∙ ap (λ (i : ℕ). roundKeyOn i key) (add-one r)) es
+      ∙ both 0 n (λ i x. roundOn x (roundKeyOn (suc r) key)) (λ i x. roundsOn r key x) l
+      ∙ sym (ap (λ (i : ℕ). each n (λ j x. roundsOn i key x) l) (add-one r))
+
+  pub last-of-rounds : (m : List ℕ) → l ≡ each n (λ i x. added x key) m → r + 1 ≡ 10 → t ≡ each n (λ i x. lastOn x k) s
+      → t ≡ each n (λ i x. cipherOn key x) m
+  unfolding cipherOn
+  last-of-rounds m em er et =
+      let nine : r ≡ 9 = omega (arith, er) in
+      et ∙ ap₂ (λ (w : Words) (u : List ℕ). each n (λ i x. lastOn x w) u) (ek ∙ ap (λ (i : ℕ). roundKeyOn i key) er)
+      (es ∙ ap₂ (λ (i : ℕ) (u : List ℕ). each n (λ j x. roundsOn i key x) u) nine em ∙ both 0 n (λ i x. roundsOn 9 key x) (λ i x. added x key) m)
+      ∙ both 0 n (λ i x. lastOn x (roundKeyOn 10 key)) (λ i x. roundsOn 9 key (added x key)) m

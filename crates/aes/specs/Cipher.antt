@@ -4,7 +4,7 @@ use Prim.Native.Nat.{ℕ, zero, suc, _+_, _*_, _/_, _%_}
 use mathlib.Core.List.{List, [], _∷_, _++_}
 use lib.ListN.{getD}
 use lib.Bits.{bitXor}
-use Rattle.aes.specs.Field.{xtime, sBox}
+use Rattle.subbytes.specs.Field.{xtime, sBox}
 
 abbrev pub at : List ℕ → ℕ → ℕ
 at s i = getD s i 0

@@ -1,5 +1,4 @@
-pub mod Field
 pub mod Cipher
 pub mod Words
-pub mod ByTable
-pub mod MixTable
+pub mod OnWords
+pub mod Blocks

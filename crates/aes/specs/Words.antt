@@ -5,11 +5,9 @@ use mathlib.Core.Path.{_≡_}
 use mathlib.Core.List.{List, [], _∷_}
 use lib.Bits.{bitXor}
 use lib.ListN.{getD}
+pub use Rattle.mixcolumns.specs.Columns.{joined}
 use Rattle.aes.specs.Cipher.{at}
 use Rattle.aes.specs.declared.Words.{Words}
-
-abbrev pub joined : ℕ → ℕ → ℕ → ℕ → ℕ
-joined a b c d = ((a * 256 + b) * 256 + c) * 256 + d
 
 abbrev pub octet0 : ℕ → ℕ
 octet0 w = w / 16777216 % 256

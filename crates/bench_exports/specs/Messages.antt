@@ -28,6 +28,6 @@ genuineCount key [] = 0
 genuineCount key (m ∷ l) = oneIf (genuine key m) + genuineCount key l
 
 -- the same by a lent table and prepared keys
-abbrev pub genuineCountBy : List ℕ → Prepared → Prepared → List (List ℕ) → ℕ
-genuineCountBy t usual installed [] = 0
-genuineCountBy t usual installed (m ∷ l) = oneIf (genuineBy t usual installed m) + genuineCountBy t usual installed l
+abbrev pub genuineCountBy : Prepared → Prepared → List (List ℕ) → ℕ
+genuineCountBy usual installed [] = 0
+genuineCountBy usual installed (m ∷ l) = oneIf (genuineBy usual installed m) + genuineCountBy usual installed l

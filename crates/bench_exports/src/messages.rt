@@ -39,8 +39,8 @@ fn one_if(b: bool) -> usize
     if b { 1 } else { 0 }
 }
 
-fn count_genuine(t: &[u32; 1024], usual: Prepared, installed: Prepared, messages: &[u8]) -> usize
-    ensures { λ r. ⌜ r ≡ genuineCountBy (now (t .entry)) usual installed (messagesIn (now (messages .entry))) ⌝ }
+fn count_genuine(usual: Prepared, installed: Prepared, messages: &[u8]) -> usize
+    ensures { λ r. ⌜ r ≡ genuineCountBy usual installed (messagesIn (now (messages .entry))) ⌝ }
 {
     let n = messages.len() / 48;
     let mut sum: usize = 0;
@@ -48,7 +48,7 @@ fn count_genuine(t: &[u32; 1024], usual: Prepared, installed: Prepared, messages
     while i < n {
         let at = 48 * i;
         let end = at + 48;
-        sum = sum + one_if(integrity::genuine(t, usual, installed, &messages[at..end]));
+        sum = sum + one_if(integrity::genuine(usual, installed, &messages[at..end]));
         i += 1;
     }
     sum
@@ -59,8 +59,7 @@ fn count_genuine(t: &[u32; 1024], usual: Prepared, installed: Prepared, messages
 pub extern "C" fn bench_genuine(messages: &[u8]) -> usize
     ensures { λ r. ⌜ r ≡ genuineCount benchKey (messagesIn (now (messages .entry))) ⌝ }
 {
-    let t = aes::mix::table();
     let usual = integrity::default_key();
-    let installed = cmac::prepare(&t, [9u8; 16]);
-    count_genuine(&t, usual, installed, messages)
+    let installed = cmac::prepare([9u8; 16]);
+    count_genuine(usual, installed, messages)
 }

@@ -1,4 +1,4 @@
--- By `mixTable` and a key prepared with it, the code's CMAC is AES-CMAC under that key.
+-- The CMAC on words under a prepared key is AES-CMAC under that key.
 -- Assumes nothing.
 use mathlib.Core.Path.{_≡_, _∙_, refl, sym, ap, ap₂}
 use mathlib.Core.Bool.{Bool, true, false, cond}
@@ -13,14 +13,12 @@ use lib.ListN.{length, getD, take}
 use borrow.Author.Tests.{lt-ltb, le-ltb, eq-eqb, ne-eqb}
 use Rattle.aes.specs.Cipher.{at, addRoundKey, aes128}
 use Rattle.aes.specs.Words.{octet0, octet1, octet2, octet3, octetsOf, wordsOf, added, noWords, Octets, Four}
-use Rattle.aes.specs.ByTable.{roundKeysBy, cipherBy}
-use Rattle.aes.specs.MixTable.{mixTable}
-use Rattle.aes.specs.declared.RoundKeys.{RoundKeys}
+use Rattle.aes.specs.OnWords.{cipherOn}
 use Rattle.aes.specs.declared.Words.{Words}
 use Rattle.aes.proofs.Octets.{xor0, xor1, xor2, xor3, sixteen, added-octets, octets-words, octets-tabulate}
-use Rattle.aes.proofs.Ciphers.{by-mix-table}
+use Rattle.aes.proofs.Ciphers.{on-words}
 use Rattle.cmac.specs.Mac.{rb, lastShifted, doubled, subkey1, subkey2, paddedAt, blockAt, before, chained, lastBlock, cmac, cmac64}
-use Rattle.cmac.specs.ByTable.{shiftedWord, lastWord, doubledWords, preparedBy, chainedBy, lastBlockBy, tagBy, macBy, mac64By}
+use Rattle.cmac.specs.Tags.{shiftedWord, lastWord, doubledWords, preparedBy, chainedBy, lastBlockBy, tagBy, macBy, mac64By}
 use Rattle.cmac.specs.declared.Prepared.{Prepared}
 
 -- 2.3 on words and on octets
@@ -60,17 +58,13 @@ doubled-is w =
     sixteen {w = doubledWords w} (shifted-octets (w .a) (w .b)) (shifted-octets (w .b) (w .c)) (shifted-octets (w .c) (w .d))
     (last-octets (w .d) (w .a))
 
-keys-of : (k : Words) → preparedBy mixTable k .keys ≡ roundKeysBy mixTable k
-unfolding preparedBy
-keys-of k = refl
-
-subkey1-is : (k : Words) → octetsOf (preparedBy mixTable k .whole) ≡ subkey1 (octetsOf k)
+subkey1-is : (k : Words) → octetsOf (preparedBy k .whole) ≡ subkey1 (octetsOf k)
 unfolding preparedBy subkey1
-subkey1-is k = doubled-is (cipherBy mixTable (roundKeysBy mixTable k) noWords) ∙ ap doubled (by-mix-table k noWords)
+subkey1-is k = doubled-is (cipherOn k noWords) ∙ ap doubled (on-words k noWords)
 
-subkey2-is : (k : Words) → octetsOf (preparedBy mixTable k .padded) ≡ subkey2 (octetsOf k)
+subkey2-is : (k : Words) → octetsOf (preparedBy k .padded) ≡ subkey2 (octetsOf k)
 unfolding preparedBy subkey2
-subkey2-is k = doubled-is (doubledWords (cipherBy mixTable (roundKeysBy mixTable k) noWords)) ∙ ap doubled (subkey1-is k)
+subkey2-is k = doubled-is (doubledWords (cipherOn k noWords)) ∙ ap doubled (subkey1-is k)
 
 padding-octet : (b c : Bool) (x : ℕ) → x < 256 → cond b x (cond c 0x80 0) < 256
 padding-octet true c x h = h
@@ -88,46 +82,43 @@ block-is m o j =
     octets-words (blockAt m j) (octets-tabulate 16 (λ i. paddedAt m (j + i)) (λ i. padded-octet m o (j + i))) refl
 
 module _ (k : Words) (m : List ℕ) (o : Octets m) where
-  enciphered : (x : Words) (y : Words)
-      → octetsOf (cipherBy mixTable (roundKeysBy mixTable k) (added x y)) ≡ aes128 (octetsOf k) (addRoundKey (octetsOf x) (octetsOf y))
-  enciphered x y = by-mix-table k (added x y) ∙ ap (aes128 (octetsOf k)) (added-octets x y)
+  enciphered : (x : Words) (y : Words) → octetsOf (cipherOn k (added x y)) ≡ aes128 (octetsOf k) (addRoundKey (octetsOf x) (octetsOf y))
+  enciphered x y = on-words k (added x y) ∙ ap (aes128 (octetsOf k)) (added-octets x y)
 
-  chained-is : (i : ℕ) → octetsOf (chainedBy mixTable (roundKeysBy mixTable k) m i) ≡ chained (octetsOf k) m i
+  chained-is : (i : ℕ) → octetsOf (chainedBy k m i) ≡ chained (octetsOf k) m i
   unfolding chainedBy chained
   chained-is zero = refl
   chained-is (suc i) =
-      enciphered (chainedBy mixTable (roundKeysBy mixTable k) m i) (wordsOf (blockAt m (i * 16)))
+      enciphered (chainedBy k m i) (wordsOf (blockAt m (i * 16)))
       ∙ ap (aes128 (octetsOf k)) (ap₂ addRoundKey (chained-is i) (block-is m o (i * 16)))
 
   picked : (b : Bool)
-      → octetsOf (cond b (preparedBy mixTable k .whole) (preparedBy mixTable k .padded))
-      ≡ cond b (subkey1 (octetsOf k)) (subkey2 (octetsOf k))
+      → octetsOf (cond b (preparedBy k .whole) (preparedBy k .padded)) ≡ cond b (subkey1 (octetsOf k)) (subkey2 (octetsOf k))
   picked true = subkey1-is k
   picked false = subkey2-is k
 
-  last-block-is : (j : ℕ) → octetsOf (lastBlockBy (preparedBy mixTable k) m j) ≡ lastBlock (octetsOf k) m j
+  last-block-is : (j : ℕ) → octetsOf (lastBlockBy (preparedBy k) m j) ≡ lastBlock (octetsOf k) m j
   unfolding lastBlockBy lastBlock
   last-block-is j =
-      added-octets (wordsOf (blockAt m j))
-      (cond (eqb (length m) (j + 16)) (preparedBy mixTable k .whole) (preparedBy mixTable k .padded))
+      added-octets (wordsOf (blockAt m j)) (cond (eqb (length m) (j + 16)) (preparedBy k .whole) (preparedBy k .padded))
       ∙ ap₂ addRoundKey (block-is m o j) (picked (eqb (length m) (j + 16)))
 
+  key-is : preparedBy k .key ≡ k
+  unfolding preparedBy
+  key-is = refl
+
   -- under the key whose words are k
-  pub tag-is : macBy mixTable (preparedBy mixTable k) m ≡ cmac (octetsOf k) m
+  pub tag-is : macBy (preparedBy k) m ≡ cmac (octetsOf k) m
   unfolding tagBy cmac
   tag-is =
-      ap
-      (λ (ks : RoundKeys).
-      octetsOf (cipherBy mixTable ks (added (chainedBy mixTable ks m (before m)) (lastBlockBy (preparedBy mixTable k) m (before m * 16)))))
-      (keys-of k)
-      ∙ enciphered (chainedBy mixTable (roundKeysBy mixTable k) m (before m)) (lastBlockBy (preparedBy mixTable k) m (before m * 16))
+      ap (λ (w : Words). octetsOf (cipherOn w (added (chainedBy w m (before m)) (lastBlockBy (preparedBy k) m (before m * 16))))) key-is
+      ∙ enciphered (chainedBy k m (before m)) (lastBlockBy (preparedBy k) m (before m * 16))
       ∙ ap (aes128 (octetsOf k)) (ap₂ addRoundKey (chained-is (before m)) (last-block-is (before m * 16)))
 
 -- for every key and every message
-pub mac-by-mix-table : (key m : List ℕ) → Octets key → length key ≡ 16 → Octets m
-    → macBy mixTable (preparedBy mixTable (wordsOf key)) m ≡ cmac key m
-mac-by-mix-table key m ok h om = tag-is (wordsOf key) m om ∙ ap (λ (k : List ℕ). cmac k m) (octets-words key ok h)
+pub mac-prepared : (key m : List ℕ) → Octets key → length key ≡ 16 → Octets m → macBy (preparedBy (wordsOf key)) m ≡ cmac key m
+mac-prepared key m ok h om = tag-is (wordsOf key) m om ∙ ap (λ (k : List ℕ). cmac k m) (octets-words key ok h)
 
-pub mac64-by-mix-table : (key m : List ℕ) → Octets key → length key ≡ 16 → Octets m
-    → mac64By mixTable (preparedBy mixTable (wordsOf key)) m ≡ cmac64 key m
-mac64-by-mix-table key m ok h om = ap (take 8) (mac-by-mix-table key m ok h om)
+pub mac64-prepared : (key m : List ℕ) → Octets key → length key ≡ 16 → Octets m
+    → mac64By (preparedBy (wordsOf key)) m ≡ cmac64 key m
+mac64-prepared key m ok h om = ap (take 8) (mac-prepared key m ok h om)

@@ -1,2 +1,2 @@
 pub mod Mac
-pub mod ByTable
+pub mod Tags

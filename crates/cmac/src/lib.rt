@@ -1,16 +1,17 @@
-// AES-CMAC (RFC 4493) of a lent slice, and its first 64 bits, under a key that is prepared once for many messages.
+// AES-CMAC (RFC 4493) of a lent slice, and its first 64 bits, under a key that is prepared once for many messages; of up to eight
+// messages of one length at once, whose blocks are enciphered side by side.
 ghost use mathlib.Core.Path.{_≡_};
-ghost use Prim.Native.Nat.{_+_, _-_, _*_, _/_, _<_, _≤_, _^_};
-ghost use lib.ListN.{length};
-ghost use Rattle.aes.specs.Words.{wordsOf, added};
+ghost use Prim.Native.Nat.{min, _+_, _-_, _*_, _/_, _<_, _≤_, _^_};
+ghost use lib.ListN.{length, take};
+ghost use Rattle.aes.specs.Words.{octetsOf, wordsOf, added};
 ghost use Rattle.cmac.specs.Mac.{paddedAt, blockAt, cmac};
-ghost use Rattle.cmac.specs.ByTable.{shiftedWord, lastWord, doubledWords, Ready, wordAt, lastBlockBy, blockBy, tagBy, macBy, mac64By};
-use aes::RoundKeys;
+ghost use Rattle.aes.specs.Blocks.{mostBlocks, each};
+ghost use Rattle.cmac.specs.Tags.{shiftedWord, lastWord, doubledWords, Ready, wordAt, lastBlockBy, macBy, mac64By, messageOf, tagBy, tagsBy};
 use aes::Words;
 
-// The round keys, and the subkeys K1 for a whole last block and K2 for a padded one.
+// The key, and its subkeys K1 for a whole last block and K2 for a padded one.
 pub struct Prepared {
-    pub keys: RoundKeys,
+    pub key: Words,
     pub whole: Words,
     pub padded: Words,
 }
@@ -139,65 +140,88 @@ fn add_last(key: Prepared, x: Words, m: &[u8], j: usize) -> Words
     }
 }
 
-fn add_next(key: Prepared, x: Words, m: &[u8], i: usize, n: usize) -> Words
-    requires { ⌜ (i ≤ n) × (n ≡ (length (now m) - 1) / 16) ⌝ }
-    ensures { λ r. ⌜ r ≡ added x (blockBy key (now (m .entry)) i) ⌝ }
+// Block i of each of n messages of `size` octets, which is not the last.
+fn add_whole_each(ms: &[u8], size: usize, i: usize, n: usize, xs: &mut [u32; 32])
+    requires { ⌜ (n ≤ mostBlocks) × (n * size ≤ length (now ms)) × (i * 16 + 16 ≤ size) × (length (now xs) ≡ 32) ⌝ }
+    ensures { λ _. ⌜ now (xs .exit) ≡ each n (λ j x. added x (wordsOf (blockAt (messageOf (now (ms .entry)) size j) (i * 16)))) (now (xs .entry)) ⌝ }
 {
-    if i < n {
-        add_whole(x, m, i * 16)
-    } else {
-        add_last(key, x, m, i * 16)
+    let mut j: usize = 0;
+    while j < n {
+        let at = j * size;
+        let end = at + size;
+        let x = aes::block(xs, j);
+        aes::put(xs, j, add_whole(x, &ms[at..end], i * 16));
+        j += 1;
     }
 }
 
-// Every block is enciphered at one place of the code: the compiler merges the cipher into the loop, and what one block gives
-// goes to the next in registers.
-fn tag(t: &[u32; 1024], key: Prepared, m: &[u8]) -> Words
-    ensures { λ r. ⌜ r ≡ tagBy (now (t .entry)) key (now (m .entry)) ⌝ }
+// The last one, which starts at octet `last`.
+fn add_last_each(key: Prepared, ms: &[u8], size: usize, last: usize, n: usize, xs: &mut [u32; 32])
+    requires { ⌜ (n ≤ mostBlocks) × (n * size ≤ length (now ms)) × (last ≤ size) × (length (now xs) ≡ 32) ⌝ }
+    ensures { λ _. ⌜ now (xs .exit) ≡ each n (λ j x. added x (lastBlockBy key (messageOf (now (ms .entry)) size j) last)) (now (xs .entry)) ⌝ }
 {
-    let ks = key.keys;
-    let first = ks.first;
-    let last = ks.last;
-    let n = blocks_before(m.len());
-    let mut x = NO_WORDS;
+    let mut j: usize = 0;
+    while j < n {
+        let at = j * size;
+        let end = at + size;
+        let x = aes::block(xs, j);
+        aes::put(xs, j, add_last(key, x, &ms[at..end], last));
+        j += 1;
+    }
+}
+
+// The tags of `count` messages, eight at most, that stand one behind the other and share the length of the slice.
+pub fn tags(key: Prepared, ms: &[u8], count: usize) -> [u32; 32]
+    ensures { λ r. ⌜ r ≡ tagsBy key (now (ms .entry)) (min count mostBlocks) ⌝ }
+{
+    let mut xs = [0u32; 32];
+    let n = aes::at_most(count);
+    if n == 0 {
+        return xs;
+    }
+    let size = ms.len() / n;
+    let before = blocks_before(size);
+    let k = key.key;
     let mut i: usize = 0;
-    while i <= n {
-        let next = aes::encipher(t, first, last, add_next(key, x, m, i, n));
-        x = next;
+    while i < before {
+        add_whole_each(ms, size, i, n, &mut xs);
+        aes::encipher(k, n, &mut xs);
         i += 1;
     }
-    x
+    add_last_each(key, ms, size, before * 16, n, &mut xs);
+    aes::encipher(k, n, &mut xs);
+    xs
 }
 
-// A block of zeros is enciphered as a message with no subkeys, so that it takes no second place of the code.
-pub fn prepare(t: &[u32; 1024], key: [u8; 16]) -> Prepared
-    ensures { λ r. ⌜ Ready (now (t .entry)) key r ⌝ }
+fn tag(key: Prepared, m: &[u8]) -> Words
+    ensures { λ r. ⌜ r ≡ tagBy key (now (m .entry)) ⌝ }
 {
-    let all = aes::expand(t, aes::load(key));
-    let bare = Prepared {
-        keys: all,
-        whole: NO_WORDS,
-        padded: NO_WORDS,
-    };
-    let whole = doubled(tag(t, bare, &[0u8; 16]));
-    let padded = doubled(whole);
+    let xs = tags(key, m, 1);
+    aes::block(&xs, 0)
+}
+
+pub fn prepare(key: [u8; 16]) -> Prepared
+    ensures { λ r. ⌜ Ready key r ⌝ }
+{
+    let k = aes::load(key);
+    let whole = doubled(aes::encipher_one(k, NO_WORDS));
     Prepared {
-        keys: all,
+        key: k,
         whole: whole,
-        padded: padded,
+        padded: doubled(whole),
     }
 }
 
-pub fn mac(t: &[u32; 1024], key: Prepared, m: &[u8]) -> [u8; 16]
-    ensures { λ r. ⌜ r ≡ macBy (now (t .entry)) key (now (m .entry)) ⌝ }
+pub fn mac(key: Prepared, m: &[u8]) -> [u8; 16]
+    ensures { λ r. ⌜ r ≡ macBy key (now (m .entry)) ⌝ }
 {
-    aes::store(tag(t, key, m))
+    aes::store(tag(key, m))
 }
 
-pub fn mac64(t: &[u32; 1024], key: Prepared, m: &[u8]) -> [u8; 8]
-    ensures { λ r. ⌜ r ≡ mac64By (now (t .entry)) key (now (m .entry)) ⌝ }
+// The first 64 bits of a tag.
+pub fn first_octets(w: Words) -> [u8; 8]
+    ensures { λ r. ⌜ r ≡ take 8 (octetsOf w) ⌝ }
 {
-    let w = tag(t, key, m);
     [
         (w.a / 16777216 % 256) as u8,
         (w.a / 65536 % 256) as u8,
@@ -210,11 +234,15 @@ pub fn mac64(t: &[u32; 1024], key: Prepared, m: &[u8]) -> [u8; 8]
     ]
 }
 
+pub fn mac64(key: Prepared, m: &[u8]) -> [u8; 8]
+    ensures { λ r. ⌜ r ≡ mac64By key (now (m .entry)) ⌝ }
+{
+    first_octets(tag(key, m))
+}
+
 // Under a key that is used once.
 pub fn mac_once(key: [u8; 16], m: &[u8]) -> [u8; 16]
     ensures { λ r. ⌜ r ≡ cmac key (now (m .entry)) ⌝ }
 {
-    let t = aes::mix::table();
-    let p = prepare(&t, key);
-    mac(&t, p, m)
+    mac(prepare(key), m)
 }

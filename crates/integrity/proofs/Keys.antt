@@ -8,11 +8,10 @@ use native.Mathlib.Omega.{arith}
 use lib.Dec.{leb}
 use lib.ListN.{length, take, replicate}
 use Rattle.aes.specs.Words.{wordsOf, Octets}
-use Rattle.aes.specs.MixTable.{mixTable}
 use Rattle.aes.proofs.Octets.{octets-nil, octets-cons}
-use Rattle.cmac.specs.ByTable.{preparedBy}
+use Rattle.cmac.specs.Tags.{preparedBy}
 use Rattle.cmac.specs.declared.Prepared.{Prepared}
-use Rattle.cmac.proofs.Macs.{mac64-by-mix-table}
+use Rattle.cmac.proofs.Macs.{mac64-prepared}
 use Rattle.ploam.specs.Layout.{messageOctets, coveredOctets, addressOf, typeOf, micField}
 use Rattle.integrity.specs.Integrity.{directionCode, covered, same, micRight, defaultKey, byDefault, genuine, micRightBy, genuineBy}
 use Rattle.integrity.specs.declared.Direction.{Direction}
@@ -32,12 +31,12 @@ octets-covered direction m o =
     octets-cons (directionCode direction) (take coveredOctets m) (code-octet direction) (octets-take coveredOctets m o)
 
 -- for every key, direction and message
-pub mic-right-by-mix-table : (key : List ℕ) (direction : Direction) (m : List ℕ) → Octets key → length key ≡ 16 → Octets m
-    → micRightBy mixTable (preparedBy mixTable (wordsOf key)) direction m ≡ micRight key direction m
+pub mic-right-prepared : (key : List ℕ) (direction : Direction) (m : List ℕ) → Octets key → length key ≡ 16 → Octets m
+    → micRightBy (preparedBy (wordsOf key)) direction m ≡ micRight key direction m
 unfolding micRightBy micRight
-mic-right-by-mix-table key direction m ok h om =
+mic-right-prepared key direction m ok h om =
     ap (λ (mic : List ℕ). leb messageOctets (length m) && same (micField m) mic)
-    (mac64-by-mix-table key (covered direction m) ok h (octets-covered direction m om))
+    (mac64-prepared key (covered direction m) ok h (octets-covered direction m om))
 
 octets-replicate : (n x : ℕ) → x < 256 → Octets (replicate n x)
 octets-replicate zero x h = octets-nil
@@ -47,22 +46,22 @@ pub default-octets : Octets defaultKey
 default-octets = octets-replicate 16 0x55 (omega arith)
 
 chosen : (b : Bool) (key m : List ℕ) → Octets key → length key ≡ 16 → Octets m
-    → micRightBy mixTable (cond b (preparedBy mixTable (wordsOf defaultKey)) (preparedBy mixTable (wordsOf key))) Downstream m
+    → micRightBy (cond b (preparedBy (wordsOf defaultKey)) (preparedBy (wordsOf key))) Downstream m
     ≡ micRight (cond b defaultKey key) Downstream m
-chosen true key m ok h om = mic-right-by-mix-table defaultKey Downstream m default-octets refl om
-chosen false key m ok h om = mic-right-by-mix-table key Downstream m ok h om
+chosen true key m ok h om = mic-right-prepared defaultKey Downstream m default-octets refl om
+chosen false key m ok h om = mic-right-prepared key Downstream m ok h om
 
-pub genuine-by-mix-table : (key m : List ℕ) → Octets key → length key ≡ 16 → Octets m
-    → genuineBy mixTable (preparedBy mixTable (wordsOf defaultKey)) (preparedBy mixTable (wordsOf key)) m ≡ genuine key m
+pub genuine-prepared : (key m : List ℕ) → Octets key → length key ≡ 16 → Octets m
+    → genuineBy (preparedBy (wordsOf defaultKey)) (preparedBy (wordsOf key)) m ≡ genuine key m
 unfolding genuineBy genuine
-genuine-by-mix-table key m ok h om = chosen (byDefault Downstream (addressOf m) (typeOf m)) key m ok h om
+genuine-prepared key m ok h om = chosen (byDefault Downstream (addressOf m) (typeOf m)) key m ok h om
 
 either : (b : Bool) (p : Prepared) → cond b p p ≡ p
 either true p = refl
 either false p = refl
 
 -- whoever gives one key for both checks by that key, whichever the message asks for
-pub one-key : (t : List ℕ) (p : Prepared) (m : List ℕ) → genuineBy t p p m ≡ micRightBy t p Downstream m
+pub one-key : (p : Prepared) (m : List ℕ) → genuineBy p p m ≡ micRightBy p Downstream m
 unfolding genuineBy
-one-key t p m =
-    ap (λ (k : Prepared). micRightBy t k Downstream m) (either (byDefault Downstream (addressOf m) (typeOf m)) p)
+one-key p m =
+    ap (λ (k : Prepared). micRightBy k Downstream m) (either (byDefault Downstream (addressOf m) (typeOf m)) p)

@@ -3,3 +3,5 @@ pub mod Keys
 pub mod Signed
 pub mod Determined
 pub mod WhichKey
+pub mod SideBySide
+pub mod RowByRow

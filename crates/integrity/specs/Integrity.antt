@@ -8,7 +8,7 @@ use lib.Dec.{eqb, leb}
 use Rattle.ids.specs.Ids.{sameOnu, broadcastOnu}
 use Rattle.ids.specs.declared.OnuId.{OnuId}
 use Rattle.cmac.specs.Mac.{cmac64}
-use Rattle.cmac.specs.ByTable.{mac64By}
+use Rattle.cmac.specs.Tags.{mac64By}
 use Rattle.cmac.specs.declared.Prepared.{Prepared}
 use Rattle.ploam.specs.Layout.{messageOctets, coveredOctets, addressOf, typeOf, micField}
 use Rattle.ploam.specs.Layout.{deactivateOnuId, requestRegistration, serialNumberOnu, registration}
@@ -67,10 +67,10 @@ unfoldable pub genuine : List ℕ → List ℕ → Bool
 genuine installed m = micRight (keyFor Downstream (addressOf m) (typeOf m) installed) Downstream m
 
 -- the same by a lent table and prepared keys, for every table and prepared key; for the true ones proofs/Keys has
--- `mic-right-by-mix-table` and `genuine-by-mix-table`
-unfoldable pub micRightBy : List ℕ → Prepared → Direction → List ℕ → Bool
-micRightBy t key direction m = leb messageOctets (length m) && same (micField m) (mac64By t key (covered direction m))
+-- `mic-right-prepared` and `genuine-prepared`
+unfoldable pub micRightBy : Prepared → Direction → List ℕ → Bool
+micRightBy key direction m = leb messageOctets (length m) && same (micField m) (mac64By key (covered direction m))
 
-unfoldable pub genuineBy : List ℕ → Prepared → Prepared → List ℕ → Bool
-genuineBy t usual installed m =
-    micRightBy t (cond (byDefault Downstream (addressOf m) (typeOf m)) usual installed) Downstream m
+unfoldable pub genuineBy : Prepared → Prepared → List ℕ → Bool
+genuineBy usual installed m =
+    micRightBy (cond (byDefault Downstream (addressOf m) (typeOf m)) usual installed) Downstream m

@@ -1,1 +1,3 @@
 pub mod Integrity
+pub mod Rights
+pub mod Rows

@@ -12,6 +12,10 @@ messageOctets = 48
 abbrev pub coveredOctets : ℕ
 coveredOctets = 40
 
+-- message i of those that stand one after another, from 0
+abbrev pub messageAt : List ℕ → ℕ → List ℕ
+messageAt b i = take messageOctets (drop (messageOctets * i) b)
+
 -- a number of two octets, and of four, at an index
 abbrev pub at16 : List ℕ → ℕ → ℕ
 at16 m i = getD m i 0 * 256 + getD m (i + 1) 0

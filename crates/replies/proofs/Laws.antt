@@ -8,34 +8,34 @@ use native.Mathlib.Omega.{arith}
 use lib.ListN.{length, take, drop}
 use lib.Seq.{drop-drop}
 use Rattle.aes.specs.Words.{wordsOf, Octets}
-use Rattle.aes.specs.MixTable.{mixTable}
-use Rattle.cmac.specs.ByTable.{preparedBy}
+use Rattle.cmac.specs.Tags.{preparedBy}
 use Rattle.cmac.specs.declared.Prepared.{Prepared}
 use Rattle.integrity.specs.Integrity.{defaultKey, installedKey}
 use Rattle.integrity.proofs.Keys.{default-octets}
 use Rattle.upstream.specs.declared.UpstreamMessage.{UpstreamMessage}
 use Rattle.upstream.specs.Upstream.{upstreamOctets}
 use Rattle.upstream.specs.Writing.{Outcome, Leaves, written, writtenBy}
-use Rattle.upstream.proofs.RoundTrip.{written-by-mix-table}
+use Rattle.upstream.proofs.RoundTrip.{written-prepared}
 use Rattle.station.specs.declared.Activation.{Activation}
 use Rattle.station.specs.declared.Activation.the-variants.{Initial, SerialNumber, Ranging, Operation, Intermittent, EmergencyStop}
 use Rattle.station.specs.declared.Station.{Station}
 use Rattle.link.specs.declared.Key.{Key}
+use Rattle.activation.specs.Receiving.{Installed}
 use Rattle.activation.specs.Replying.{afterIn, afterReply}
+use Rattle.activation.proofs.Receiving.{key-is}
 use Rattle.replies.specs.Replies.{keyOf, inPlace, wrote, repliesFrom, Keyed, Left}
 
 -- what the prepared keys write is what the station's key would
 pub written-true
-    : (t : List ℕ) (usual installed : Prepared) (k : Key) (m : UpstreamMessage) (id target : List ℕ) (left : Outcome)
-    → Keyed t usual installed k → Leaves (writtenBy t usual installed m id target) (upstreamOctets m id) left
+    : (usual installed : Prepared) (k : Key) (m : UpstreamMessage) (id target : List ℕ) (left : Outcome)
+    → Keyed usual installed k → Leaves (writtenBy usual installed m id target) (upstreamOctets m id) left
     → left .target ≡ written (keyOf k) m id target .target
-written-true t usual installed k m id target left h w =
+written-true usual installed k m id target left h w =
     ap (λ (o : Outcome). o .target)
     (w .made
-    ∙ ap (λ (x : List ℕ). writtenBy x usual installed m id target) (h .table)
-    ∙ ap (λ (u : Prepared). writtenBy mixTable u installed m id target) (h .default)
-    ∙ ap (λ (u : Prepared). writtenBy mixTable (preparedBy mixTable (wordsOf defaultKey)) u m id target) (h .own)
-    ∙ written-by-mix-table (keyOf k) m id target (h .octets) (h .sixteen) (w .known))
+    ∙ ap (λ (u : Prepared). writtenBy u installed m id target) (h .default)
+    ∙ ap (λ (u : Prepared). writtenBy (preparedBy (wordsOf defaultKey)) u m id target) (h .own)
+    ∙ written-prepared (keyOf k) m id target (h .octets) (h .sixteen) (w .known))
 
 -- a reply leaves the key
 after-key : (a : Activation) (s : Station) → afterIn a s .link .key ≡ s .link .key
@@ -46,9 +46,9 @@ after-key Operation s = refl
 after-key (Intermittent left) s = refl
 after-key EmergencyStop s = refl
 
-pub keyed-after : (t : List ℕ) (u p : Prepared) (s : Station) → Keyed t u p (s .link .key) → Keyed t u p (afterReply s .link .key)
+pub keyed-after : (u p : Prepared) (s : Station) → Keyed u p (s .link .key) → Keyed u p (afterReply s .link .key)
 unfolding afterReply
-keyed-after t u p s h = rw (after-key (s .activation) s) h
+keyed-after u p s h = rw (after-key (s .activation) s) h
 
 pub replies-turn
     : (s : Station) (delay : ℕ) (b : List ℕ) (n i : ℕ) (r : Station) (c : List ℕ) → i < n → r ≡ afterReply s → c ≡ inPlace s delay b i
@@ -59,17 +59,11 @@ pub replies-end
     : (s : Station) (delay : ℕ) (b : List ℕ) (n i : ℕ) → n ≤ i → record { station = s; octets = b } ≡ repliesFrom s delay b i (n - i)
 replies-end s delay b n i h = let e : n - i ≡ 0 = omega arith in rw e
 
--- the prepared keys are those of a station that holds a key, and of one that holds none
-pub keyed-held
-    : (t : List ℕ) (u p : Prepared) (k : Key) → t ≡ mixTable → k .held ≡ true → u ≡ preparedBy mixTable (wordsOf defaultKey)
-    → p ≡ preparedBy t (wordsOf (k .octets)) → Octets (k .octets) → length (k .octets) ≡ 16 → Keyed t u p k
-keyed-held t u p k e h a b o l =
-    let b′ : p ≡ preparedBy mixTable (wordsOf (k .octets)) = b ∙ ap (λ (x : List ℕ). preparedBy x (wordsOf (k .octets))) e in
-    record { table = e; default = a; own = rw h b′; octets = rw h o; sixteen = rw h l }
-
-pub keyed-none
-    : (t : List ℕ) (u : Prepared) (k : Key) → t ≡ mixTable → k .held ≡ false → u ≡ preparedBy mixTable (wordsOf defaultKey) → Keyed t u u k
-keyed-none t u k e h a = record { table = e; default = a; own = rw h a; octets = rw h default-octets; sixteen = rw h }
+-- the prepared keys are those of a station, whether it holds a key or none
+pub keyed : (u p : Prepared) (k : Key) → u ≡ preparedBy (wordsOf defaultKey) → Installed u k p → Keyed u p k
+keyed u p k e h =
+    let f = key-is u k p e h in
+    record { default = e; own = f .0; octets = f .1; sixteen = f .2 }
 
 -- as many as there is room for
 pub room-for : (n k b : ℕ) → k ≡ min n (b / 48) → b < 2 ^ 64 → (48 * k ≤ b) × (k < 2 ^ 63)

@@ -5,8 +5,7 @@ use mathlib.Core.Path.{_≡_}
 use mathlib.Core.List.{List, _++_}
 use lib.ListN.{length, take, drop}
 use Rattle.aes.specs.Words.{wordsOf, Octets}
-use Rattle.aes.specs.MixTable.{mixTable}
-use Rattle.cmac.specs.ByTable.{preparedBy}
+use Rattle.cmac.specs.Tags.{preparedBy}
 use Rattle.cmac.specs.declared.Prepared.{Prepared}
 use Rattle.ploam.specs.Layout.{messageOctets}
 use Rattle.integrity.specs.Integrity.{defaultKey, installedKey}
@@ -49,9 +48,8 @@ abbrev pub Replied : Station → ℕ → ℕ → List ℕ → Left → Type 0
 Replied s n delay b left = left ≡ repliesFrom s delay b 0 (min n (length b / messageOctets))
 
 -- ---- the prepared keys are those of the station
-pub record Keyed (t : List ℕ) (usual installed : Prepared) (k : Key) : Type 0 where
-  pub table : t ≡ mixTable
-  pub default : usual ≡ preparedBy mixTable (wordsOf defaultKey)
-  pub own : installed ≡ preparedBy mixTable (wordsOf (keyOf k))
+pub record Keyed (usual installed : Prepared) (k : Key) : Type 0 where
+  pub default : usual ≡ preparedBy (wordsOf defaultKey)
+  pub own : installed ≡ preparedBy (wordsOf (keyOf k))
   pub octets : Octets (keyOf k)
   pub sixteen : length (keyOf k) ≡ 16

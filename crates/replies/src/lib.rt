@@ -5,36 +5,26 @@ ghost use mathlib.Core.Path.{_≡_};
 ghost use Prim.Native.Nat.{min, _*_, _≤_, _<_, _^_};
 ghost use Rattle.ploam.specs.Layout.{messageOctets};
 ghost use lib.ListN.{length};
-ghost use Rattle.cmac.specs.ByTable.{Ready};
-ghost use Rattle.link.specs.Limits.{keyOctets};
 ghost use Rattle.replies.specs.Replies.{Keyed, wrote, Left, repliesFrom, Replied};
 use activation::replying::Reply;
 use cmac::Prepared;
 use ploam::MESSAGE_OCTETS;
 use station::Station;
 
-fn write_reply(
-    t: &[u32; 1024],
-    usual: Prepared,
-    installed: Prepared,
-    s: Station,
-    delay: u32,
-    target: &mut [u8],
-)
-    requires { ⌜ Keyed (now t) usual installed (s .link .key) ⌝ }
+fn write_reply(usual: Prepared, installed: Prepared, s: Station, delay: u32, target: &mut [u8])
+    requires { ⌜ Keyed usual installed (s .link .key) ⌝ }
     ensures { λ _. ⌜ now (target .exit) ≡ wrote s delay (now (target .entry)) ⌝ }
 {
     let id = s.registration;
     match activation::replying::reply_of(s, delay) {
         Reply::Silent => {}
         Reply::Says(message) => {
-            upstream::writing::write(t, usual, installed, message, id, target);
+            upstream::writing::write(usual, installed, message, id, target);
         }
     }
 }
 
 fn write_each(
-    t: &[u32; 1024],
     usual: Prepared,
     installed: Prepared,
     s: Station,
@@ -42,7 +32,7 @@ fn write_each(
     delay: u32,
     replies: &mut [u8],
 ) -> Station
-    requires { ⌜ (Keyed (now t) usual installed (s .link .key)) × (messageOctets * n ≤ length (now replies)) × (n < 2 ^ 63) ⌝ }
+    requires { ⌜ (Keyed usual installed (s .link .key)) × (messageOctets * n ≤ length (now replies)) × (n < 2 ^ 63) ⌝ }
     ensures { λ r. ⌜ record { station = r; octets = now (replies .exit) } ≡ repliesFrom s delay (now (replies .entry)) 0 n ⌝ }
 {
     let mut next = s;
@@ -50,7 +40,7 @@ fn write_each(
     while i < n {
         let at = MESSAGE_OCTETS * i;
         let end = at + MESSAGE_OCTETS;
-        write_reply(t, usual, installed, next, delay, &mut replies[at..end]);
+        write_reply(usual, installed, next, delay, &mut replies[at..end]);
         next = activation::replying::after_reply(next);
         i += 1;
     }
@@ -63,12 +53,6 @@ fn fewer(a: usize, b: usize) -> usize
     if a <= b { a } else { b }
 }
 
-fn prepared(t: &[u32; 1024], octets: [u8; 16]) -> Prepared
-    ensures { λ r. ⌜ (Ready (now (t .entry)) octets r) × (length octets ≡ keyOctets) ⌝ }
-{
-    cmac::prepare(t, octets)
-}
-
 // The replies of n planned PLOAMu bursts, as far as the buffer has room for them; past them it keeps its octets.
 pub fn reply_all(s: Station, n: usize, delay: u32, replies: &mut [u8]) -> Station
     ensures { λ r. ⌜ Replied s n delay (now (replies .entry)) (record { station = r; octets = now (replies .exit) }) ⌝ }
@@ -77,14 +61,9 @@ pub fn reply_all(s: Station, n: usize, delay: u32, replies: &mut [u8]) -> Statio
     if k == 0 {
         return s;
     }
-    let t = aes::mix::table();
     let usual = integrity::default_key();
     let link = s.link;
     let key = link.key;
-    let octets = key.octets;
-    if key.held {
-        let installed = prepared(&t, octets);
-        return write_each(&t, usual, installed, s, k, delay, replies);
-    }
-    write_each(&t, usual, usual, s, k, delay, replies)
+    let installed = activation::installed_key(usual, key);
+    write_each(usual, installed, s, k, delay, replies)
 }

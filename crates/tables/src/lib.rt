@@ -15,6 +15,17 @@ pub fn past(table: &[u64], base: usize, x: usize) -> u64
     if at < table.len() { table[at] } else { 0 }
 }
 
+// The same of numbers of 32 bits.
+pub fn past32(table: &[u32], first: usize, x: usize) -> u32
+    ensures { λ r. ⌜ r ≡ past first (now (table .entry)) x ⌝ }
+{
+    if x < first {
+        return 0;
+    }
+    let place = x - first;
+    if place < table.len() { table[place] } else { 0 }
+}
+
 // The number in lane j, 0 to 3, of the four in an entry.
 pub fn lane(four: u64, j: usize) -> u16
     ensures { λ r. ⌜ r ≡ lane (j % 4) four ⌝ }

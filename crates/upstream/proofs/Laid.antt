@@ -55,17 +55,17 @@ pub type-laid : (message : UpstreamMessage) (id : List ℕ) → typeOf (upstream
 unfolding upstreamOctets
 type-laid message id = refl
 
-pub write-of : (t : List ℕ) (usual installed key : Prepared) (message : UpstreamMessage) (id target b : List ℕ) (onu : OnuId)
+pub write-of : (usual installed key : Prepared) (message : UpstreamMessage) (id target b : List ℕ) (onu : OnuId)
     (left : Outcome) → b ≡ upstreamOctets message id → onu ≡ upstreamAddress message
     → key ≡ cond (byDefault Upstream (upstreamAddress message) (upstreamType message)) usual installed
-    → left ≡ laidBy t key Upstream (leb (onu .0) 1023) b target → Octets b
-    → Leaves (writtenBy t usual installed message id target) (upstreamOctets message id) left
+    → left ≡ laidBy key Upstream (leb (onu .0) 1023) b target → Octets b
+    → Leaves (writtenBy usual installed message id target) (upstreamOctets message id) left
 unfolding writtenBy
-write-of t usual installed key message id target b onu left pb po pk made known =
+write-of usual installed key message id target b onu left pb po pk made known =
     record {
       made =
           made
-          ∙ ap (λ (o : OnuId). laidBy t key Upstream (leb (o .0) 1023) b target) po
-          ∙ ap₂ (λ (k : Prepared) (l : List ℕ). laidBy t k Upstream (fitting message) l target) pk pb;
+          ∙ ap (λ (o : OnuId). laidBy key Upstream (leb (o .0) 1023) b target) po
+          ∙ ap₂ (λ (k : Prepared) (l : List ℕ). laidBy k Upstream (fitting message) l target) pk pb;
       known = subst Octets pb known;
     }

@@ -12,9 +12,8 @@ use lib.Seq.{take-at}
 use borrow.Author.Tests.{le-leb, le-ltb, ltb-false}
 use Rattle.ids.specs.declared.OnuId.{OnuId}
 use Rattle.aes.specs.Words.{wordsOf, Octets}
-use Rattle.aes.specs.MixTable.{mixTable}
-use Rattle.cmac.specs.ByTable.{preparedBy, mac64By}
-use Rattle.cmac.proofs.Macs.{mac64-by-mix-table}
+use Rattle.cmac.specs.Tags.{preparedBy, mac64By}
+use Rattle.cmac.proofs.Macs.{mac64-prepared}
 use Rattle.ploam.specs.Layout.{messageOctets, coveredOctets, addressOf, typeOf, seqNoOf}
 use Rattle.integrity.specs.Integrity.{covered, micOf, micRight, defaultKey, byDefault, keyFor}
 use Rattle.integrity.specs.declared.Direction.the-variants.{Upstream}
@@ -150,17 +149,17 @@ round-trip installed message id target n li h =
 
 -- by the true table and keys prepared with it, what is written is what clause 15.6 says
 chosen : (b : Bool) (key octets : List ℕ) → Octets key → length key ≡ 16 → Octets octets
-    → mac64By mixTable (cond b (preparedBy mixTable (wordsOf defaultKey)) (preparedBy mixTable (wordsOf key))) (covered Upstream octets)
+    → mac64By (cond b (preparedBy (wordsOf defaultKey)) (preparedBy (wordsOf key))) (covered Upstream octets)
     ≡ micOf (cond b defaultKey key) Upstream octets
 chosen true key octets ok h oo =
-    mac64-by-mix-table defaultKey (covered Upstream octets) default-octets refl (octets-covered Upstream octets oo)
-chosen false key octets ok h oo = mac64-by-mix-table key (covered Upstream octets) ok h (octets-covered Upstream octets oo)
+    mac64-prepared defaultKey (covered Upstream octets) default-octets refl (octets-covered Upstream octets oo)
+chosen false key octets ok h oo = mac64-prepared key (covered Upstream octets) ok h (octets-covered Upstream octets oo)
 
-pub written-by-mix-table : (key : List ℕ) (message : UpstreamMessage) (id target : List ℕ) → Octets key → length key ≡ 16
+pub written-prepared : (key : List ℕ) (message : UpstreamMessage) (id target : List ℕ) → Octets key → length key ≡ 16
     → Octets (upstreamOctets message id)
-    → writtenBy mixTable (preparedBy mixTable (wordsOf defaultKey)) (preparedBy mixTable (wordsOf key)) message id target
+    → writtenBy (preparedBy (wordsOf defaultKey)) (preparedBy (wordsOf key)) message id target
     ≡ written key message id target
 unfolding writtenBy written
-written-by-mix-table key message id target ok h oo =
+written-prepared key message id target ok h oo =
     ap (λ (mic : List ℕ). laid mic (fitting message) (upstreamOctets message id) target)
     (chosen (byDefault Upstream (upstreamAddress message) (upstreamType message)) key (upstreamOctets message id) ok h oo)

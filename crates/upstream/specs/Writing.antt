@@ -7,7 +7,7 @@ use mathlib.Core.List.{List, _++_}
 use lib.ListN.{length, drop}
 use lib.Dec.{leb}
 use Rattle.aes.specs.Words.{Octets}
-use Rattle.cmac.specs.ByTable.{mac64By}
+use Rattle.cmac.specs.Tags.{mac64By}
 use Rattle.cmac.specs.declared.Prepared.{Prepared}
 use Rattle.ploam.specs.Layout.{messageOctets}
 use Rattle.integrity.specs.Integrity.{covered, micOf, byDefault, keyFor}
@@ -43,14 +43,14 @@ written installed message id target =
     laid (micOf key Upstream octets) (fitting message) octets target
 
 -- the same by a lent table and prepared keys, for every table and prepared key; for the true ones proofs/RoundTrip has
--- `written-by-mix-table`
-abbrev pub laidBy : List ℕ → Prepared → Direction → Bool → List ℕ → List ℕ → Outcome
-laidBy t key direction fits octets target = laid (mac64By t key (covered direction octets)) fits octets target
+-- `written-prepared`
+abbrev pub laidBy : Prepared → Direction → Bool → List ℕ → List ℕ → Outcome
+laidBy key direction fits octets target = laid (mac64By key (covered direction octets)) fits octets target
 
-unfoldable pub writtenBy : List ℕ → Prepared → Prepared → UpstreamMessage → List ℕ → List ℕ → Outcome
-writtenBy t usual installed message id target =
+unfoldable pub writtenBy : Prepared → Prepared → UpstreamMessage → List ℕ → List ℕ → Outcome
+writtenBy usual installed message id target =
     let key = cond (byDefault Upstream (upstreamAddress message) (upstreamType message)) usual installed in
-    laidBy t key Upstream (fitting message) (upstreamOctets message id) target
+    laidBy key Upstream (fitting message) (upstreamOctets message id) target
 
 -- what a call leaves; and the octets that it was to write are octets
 pub record Leaves (due : Outcome) (octets : List ℕ) (left : Outcome) : Type 0 where

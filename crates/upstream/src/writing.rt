@@ -209,21 +209,14 @@ fn lay(target: &mut [u8], at: usize, s: &[u8])
 }
 
 // Lays octets 1 to 40 and their integrity field over the front of target.
-fn put(
-    t: &[u32; 1024],
-    key: Prepared,
-    direction: Direction,
-    fits: bool,
-    b: &[u8; 40],
-    target: &mut [u8],
-) -> Written
-    ensures { λ r. ⌜ record { answer = r; target = now (target .exit) } ≡ laidBy (now (t .entry)) key direction fits (now (b .entry)) (now (target .entry)) ⌝ }
+fn put(key: Prepared, direction: Direction, fits: bool, b: &[u8; 40], target: &mut [u8]) -> Written
+    ensures { λ r. ⌜ record { answer = r; target = now (target .exit) } ≡ laidBy key direction fits (now (b .entry)) (now (target .entry)) ⌝ }
 {
     if fits {
         if target.len() < MESSAGE_OCTETS {
             return Written::Unfit;
         }
-        let mic = integrity::sign(t, key, direction, b);
+        let mic = integrity::sign(key, direction, b);
         lay(target, 0, b);
         lay(target, COVERED_OCTETS, &mic);
         Written::Done
@@ -235,21 +228,20 @@ fn put(
 // Writes the message, signed with its own key: the default key (`usual`, prepared) or the installed one. Where none is
 // installed, the caller gives the default for both.
 pub fn write(
-    t: &[u32; 1024],
     usual: Prepared,
     installed: Prepared,
     message: UpstreamMessage,
     id: [u8; 36],
     target: &mut [u8],
 ) -> Written
-    ensures { λ r. ⌜ Leaves (writtenBy (now (t .entry)) usual installed message id (now (target .entry))) (upstreamOctets message id) (record { answer = r; target = now (target .exit) }) ⌝ }
+    ensures { λ r. ⌜ Leaves (writtenBy usual installed message id (now (target .entry))) (upstreamOctets message id) (record { answer = r; target = now (target .exit) }) ⌝ }
 {
     let b = octets(message, id);
     let onu = sender(message);
     let fits = onu.0 <= WIDEST_ONU;
     if integrity::by_default(Direction::Upstream, onu, kind(&b)) {
-        put(t, usual, Direction::Upstream, fits, &b, target)
+        put(usual, Direction::Upstream, fits, &b, target)
     } else {
-        put(t, installed, Direction::Upstream, fits, &b, target)
+        put(installed, Direction::Upstream, fits, &b, target)
     }
 }

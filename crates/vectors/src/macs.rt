@@ -201,7 +201,7 @@ fn fields(m: Message) {
     content(c);
 }
 
-fn downstream_message(t: &[u32; 1024], usual: Prepared, installed: Prepared) {
+fn downstream_message(usual: Prepared, installed: Prepared) {
     let m =
         b"\x00\x13\x0a\x03\x04\x45\x01\x00\x00\x00\x00\x00\x00\x00\x00\x00\x00\x00\x00\x00\x00\x00\x00\x00\x00\x00\x00\x00\x00\x00\x00\x00\x00\x00\x00\x00\x00\x00\x00\x00\x46\x39\x87\x56\x28\x08\x14\xe6";
     match ploam::reading::read(m) {
@@ -209,35 +209,31 @@ fn downstream_message(t: &[u32; 1024], usual: Prepared, installed: Prepared) {
         Received::Short => text(b"short"),
     }
     text(b", genuine under PLOAM_IK:");
-    truth(integrity::genuine(t, usual, installed, m));
+    truth(integrity::genuine(usual, installed, m));
     text(b", under the default key:");
-    truth(integrity::genuine(t, usual, usual, m));
+    truth(integrity::genuine(usual, usual, m));
     text(b"\n");
     let mic = cmac::mac64(
-        t,
         installed,
         b"\x01\x00\x13\x0a\x03\x04\x45\x01\x00\x00\x00\x00\x00\x00\x00\x00\x00\x00\x00\x00\x00\x00\x00\x00\x00\x00\x00\x00\x00\x00\x00\x00\x00\x00\x00\x00\x00\x00\x00\x00\x00",
     );
     line(b"IV.7", &mic);
 }
 
-fn upstream_message(t: &[u32; 1024], installed: Prepared) {
+fn upstream_message(installed: Prepared) {
     let mic = cmac::mac64(
-        t,
         installed,
         b"\x02\x00\x13\x10\x00\x02\x00\x00\x00\x00\x00\x00\x00\x00\x00\x00\x00\x00\x00\x00\x00\x00\x00\x00\x00\x00\x00\x00\x00\x00\x00\x00\x00\x00\x00\x00\x00\x00\x00\x00\x00",
     );
     line(b"IV.8", &mic);
     text(b"IV.8 upstream:");
     truth(integrity::mic_right(
-        t,
         installed,
         Direction::Upstream,
         b"\x00\x13\x10\x00\x02\x00\x00\x00\x00\x00\x00\x00\x00\x00\x00\x00\x00\x00\x00\x00\x00\x00\x00\x00\x00\x00\x00\x00\x00\x00\x00\x00\x00\x00\x00\x00\x00\x00\x00\x00\x68\xae\x4d\xd7\x75\x55\x0a\xcb",
     ));
     text(b", downstream:");
     truth(integrity::mic_right(
-        t,
         installed,
         Direction::Downstream,
         b"\x00\x13\x10\x00\x02\x00\x00\x00\x00\x00\x00\x00\x00\x00\x00\x00\x00\x00\x00\x00\x00\x00\x00\x00\x00\x00\x00\x00\x00\x00\x00\x00\x00\x00\x00\x00\x00\x00\x00\x00\x68\xae\x4d\xd7\x75\x55\x0a\xcb",
@@ -268,50 +264,40 @@ fn omci_message() {
     line(b"IV.10", &first);
 }
 
-fn written(
-    name: &[u8],
-    t: &[u32; 1024],
-    usual: Prepared,
-    installed: Prepared,
-    message: UpstreamMessage,
-) {
+fn written(name: &[u8], usual: Prepared, installed: Prepared, message: UpstreamMessage) {
     let id = *b"0123456789abcdefghijklmnopqrstuvwxyz";
     let mut target = [0u8; 48];
-    match upstream::writing::write(t, usual, installed, message, id, &mut target) {
+    match upstream::writing::write(usual, installed, message, id, &mut target) {
         Written::Done => line(name, &target),
         Written::Unfit => text(b"unfit\n"),
     }
 }
 
-fn station_messages(t: &[u32; 1024], usual: Prepared, installed: Prepared) {
+fn station_messages(usual: Prepared, installed: Prepared) {
     let serial = SerialNumber {
         vendor: 0x564e4452,
         vssn: 0x00112233,
     };
     written(
         b"Serial_Number_ONU",
-        t,
         usual,
         installed,
         UpstreamMessage::SerialNumberOnu(serial, 119440),
     );
     written(
         b"Registration",
-        t,
         usual,
         installed,
         UpstreamMessage::Registration(OnuId(0x13), 3),
     );
     written(
         b"Acknowledgement",
-        t,
         usual,
         installed,
         UpstreamMessage::Acknowledgement(OnuId(0x13), 7, Completion::ParameterError),
     );
     written(
         b"ONU-ID 1024:",
-        t,
         usual,
         installed,
         UpstreamMessage::Acknowledgement(OnuId(1024), 7, Completion::Ok),
@@ -319,17 +305,16 @@ fn station_messages(t: &[u32; 1024], usual: Prepared, installed: Prepared) {
 }
 
 pub fn run() {
-    let t = aes::mix::table();
     let usual = integrity::default_key();
-    let installed = cmac::prepare(&t, ploam_ik());
+    let installed = cmac::prepare(ploam_ik());
     fips_197();
     rfc_4493();
     downstream_encryption();
     upstream_encryption();
     key_derivation();
-    downstream_message(&t, usual, installed);
-    upstream_message(&t, installed);
+    downstream_message(usual, installed);
+    upstream_message(installed);
     key_report();
     omci_message();
-    station_messages(&t, usual, installed);
+    station_messages(usual, installed);
 }

@@ -1,17 +1,15 @@
 -- `activation::receive_all` meets its contract.
 -- Assumes nothing.
-use mathlib.Core.Path.{_≡_, _∙_, ap}
+use mathlib.Core.Path.{_∙_, ap}
 use native.Mathlib.Omega.{arith}
-use Prim.Native.Nat.{ℕ, _/_}
 use mathlib.Core.List.{List}
+use Prim.Native.Nat.{ℕ, _/_}
 use denote.Ref.{now}
 use lib.ListN.{length}
-use Rattle.aes.specs.Words.{wordsOf, Octets}
-use Rattle.aes.specs.MixTable.{mixTable}
-use Rattle.cmac.specs.ByTable.{preparedBy}
+use Rattle.aes.specs.Words.{Octets}
 use Rattle.cmac.specs.declared.Prepared.{Prepared}
 use Rattle.activation.specs.Receiving.{receivedAllBy}
-use Rattle.activation.proofs.Receiving.{each-true, key-is, key-none}
+use Rattle.activation.proofs.Receiving.{each-true, key-is}
 use Rattle.activation.proofs.PassingOver.{start-passed, none-acts}
 use borrow.Author.Needs.{needs}
 use Rattle.activation.proofs.receive_all.Statement.{statement}
@@ -28,49 +26,26 @@ returns c =
     let a = c .before .before .before .before .before .before .before .args in
     none-acts (now (a .messages)) (length (now (a .messages)) / 48) _ (a .s) _ (c .before .before .is-full .ensures) (c .before .past-inert .ensures) (c .if1 .taken)
 
-table-requires : tie.Need-table-requires
-table-requires c κs = search needs
-
 default-key-requires : tie.Need-default-key-requires
 default-key-requires c κs = search needs
 
-prepared-requires : tie.Need-prepared-requires
-prepared-requires c κs = search needs
+installed-key-requires : tie.Need-installed-key-requires
+installed-key-requires c κs = search needs
 
 receive-each-requires : tie.Need-receive-each-requires
 receive-each-requires c κs = search needs
 
 returns-2 : tie.Need-returns-2
 returns-2 c =
-    let a = c .before .before .before .before .before .before .before .before .before .before .before .before .before .before .before .before .args in
+    let a = c .before .before .before .before .before .before .before .before .before .before .before .args in
     let b = now (a .messages) in
-    let t = c .before .before .before .before .before .before .before .before .table .result in
-    let p = c .before .before .prepared .result in
-    let u = c .before .before .before .before .before .before .before .default-key .result in
-    let o : Octets b = λ i. omega (arith, c .before .before .before .before .before .before .before .before .before .before .before .before .before .before .before .shared-slice-known .given i) in
-    let ready = c .before .before .prepared .ensures .0 in
-    let made : p ≡ preparedBy mixTable (wordsOf (a .s .link .key .octets)) = ready .made ∙ ap (λ (t : List ℕ). preparedBy t (wordsOf (a .s .link .key .octets))) (c .before .before .before .before .before .before .before .before .table .ensures) in
+    let u = c .before .before .before .default-key in
+    let p = c .before .installed-key in
+    let o : Octets b = λ i. omega (arith, c .before .before .before .before .before .before .before .before .before .before .shared-slice-known .given i) in
     c .receive-each .ensures
-    ∙ start-passed b (length b / 48) _ (a .s) _ (c .before .before .before .before .before .before .before .before .before .before .before .is-full .ensures) (c .before .before .before .before .before .before .before .before .before .before .past-inert .ensures) t u p
-    ∙ ap (λ (t : List ℕ). receivedAllBy t u p (a .s) b) (c .before .before .before .before .before .before .before .before .table .ensures)
-    ∙ ap (λ (x : Prepared). receivedAllBy mixTable x p (a .s) b) (c .before .before .before .before .before .before .before .default-key .ensures)
-    ∙ each-true p b o (length b / 48) 0 (a .s) (key-is p (a .s .link .key) made (ready .octets) (c .before .before .prepared .ensures .1))
-
-receive-each-requires-2 : tie.Need-receive-each-requires-2
-receive-each-requires-2 c κs = search needs
-
-returns-3 : tie.Need-returns-3
-returns-3 c =
-    let a = c .before .before .before .before .before .before .before .before .before .before .before .before .before .before .args in
-    let b = now (a .messages) in
-    let t = c .before .before .before .before .before .before .table .result in
-    let u = c .before .before .before .before .before .default-key .result in
-    let o : Octets b = λ i. omega (arith, c .before .before .before .before .before .before .before .before .before .before .before .before .before .shared-slice-known .given i) in
-    c .receive-each2 .ensures
-    ∙ start-passed b (length b / 48) _ (a .s) _ (c .before .before .before .before .before .before .before .before .before .is-full .ensures) (c .before .before .before .before .before .before .before .before .past-inert .ensures) t u u
-    ∙ ap (λ (t : List ℕ). receivedAllBy t u u (a .s) b) (c .before .before .before .before .before .before .table .ensures)
-    ∙ ap (λ (x : Prepared). receivedAllBy mixTable x u (a .s) b) (c .before .before .before .before .before .default-key .ensures)
-    ∙ each-true u b o (length b / 48) 0 (a .s) (key-none u (a .s .link .key) (c .before .before .if2 .left))
+    ∙ start-passed b (length b / 48) _ (a .s) _ (c .before .before .before .before .before .before .is-full .ensures) (c .before .before .before .before .before .past-inert .ensures) (u .result) (p .result)
+    ∙ ap (λ (x : Prepared). receivedAllBy x (p .result) (a .s) b) (u .ensures)
+    ∙ each-true (p .result) b o (length b / 48) 0 (a .s) (key-is (u .result) (a .s .link .key) (p .result) (u .ensures) (p .ensures))
 
 pub receive-all-spec : {M : Type 1} → statement M
 receive-all-spec =
@@ -79,10 +54,7 @@ receive-all-spec =
     is-full-requires
     past-inert-requires
     returns
-    table-requires
     default-key-requires
-    prepared-requires
+    installed-key-requires
     receive-each-requires
-    returns-2
-    receive-each-requires-2
-    returns-3)
+    returns-2)

@@ -8,7 +8,7 @@ use lib.ListN.{length}
 use Rattle.aes.specs.Words.{wordsOf, added}
 use Rattle.aes.specs.declared.Words.{Words}
 use Rattle.cmac.specs.Mac.{blockAt}
-use Rattle.cmac.specs.ByTable.{lastBlockBy}
+use Rattle.cmac.specs.Tags.{lastBlockBy}
 use Rattle.cmac.proofs.Blocks.{subkey-first}
 use borrow.Author.Needs.{needs}
 use Rattle.cmac.proofs.add_last.Statement.{statement}

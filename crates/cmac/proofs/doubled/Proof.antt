@@ -1,6 +1,6 @@
 -- `cmac::doubled` meets its contract.
 -- Assumes nothing.
-use Rattle.cmac.specs.ByTable.{doubledWords}
+use Rattle.cmac.specs.Tags.{doubledWords}
 use borrow.Author.Needs.{needs}
 use Rattle.cmac.proofs.doubled.Statement.{statement}
 use Rattle.cmac.proofs.doubled.Tie as tie

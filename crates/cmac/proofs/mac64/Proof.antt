@@ -1,6 +1,6 @@
 -- `cmac::mac64` meets its contract.
 -- Assumes nothing.
-use mathlib.Core.Path.{ap}
+use mathlib.Core.Path.{_∙_, ap}
 use lib.ListN.{take}
 use Rattle.aes.specs.Words.{octetsOf}
 use Rattle.aes.specs.declared.Words.{Words}
@@ -11,46 +11,11 @@ use Rattle.cmac.proofs.mac64.Tie as tie
 tag-requires : tie.Need-tag-requires
 tag-requires c κs = search needs
 
-cast-t7 : tie.Need-cast-t7
-cast-t7 c = search needs
-
-cast-t10 : tie.Need-cast-t10
-cast-t10 c = search needs
-
-cast-t13 : tie.Need-cast-t13
-cast-t13 c = search needs
-
-cast-t15 : tie.Need-cast-t15
-cast-t15 c = search needs
-
-cast-t18 : tie.Need-cast-t18
-cast-t18 c = search needs
-
-cast-t21 : tie.Need-cast-t21
-cast-t21 c = search needs
-
-cast-t24 : tie.Need-cast-t24
-cast-t24 c = search needs
-
-cast-t26 : tie.Need-cast-t26
-cast-t26 c = search needs
+first-octets-requires : tie.Need-first-octets-requires
+first-octets-requires c κs = search needs
 
 returns : tie.Need-returns
-returns c =
-    let tagged = c .before .before .before .before .before .before .before .before in
-    ap (λ (w : Words). take 8 (octetsOf w)) (tagged .tag .ensures)
+returns c = c .first-octets .ensures ∙ ap (λ (w : Words). take 8 (octetsOf w)) (c .before .tag .ensures)
 
 pub mac64-spec : {M : Type 1} → statement M
-mac64-spec =
-    tie.close
-    (tie.spec
-    tag-requires
-    cast-t7
-    cast-t10
-    cast-t13
-    cast-t15
-    cast-t18
-    cast-t21
-    cast-t24
-    cast-t26
-    returns)
+mac64-spec = tie.close (tie.spec tag-requires first-octets-requires returns)

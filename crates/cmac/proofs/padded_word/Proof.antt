@@ -1,6 +1,6 @@
 -- `cmac::padded_word` meets its contract.
 -- Assumes nothing.
-use Rattle.cmac.specs.ByTable.{wordAt}
+use Rattle.cmac.specs.Tags.{wordAt}
 use borrow.Author.Needs.{needs}
 use Rattle.cmac.proofs.padded_word.Statement.{statement}
 use Rattle.cmac.proofs.padded_word.Tie as tie

@@ -43,7 +43,7 @@ returns-2 c =
     ∙ c .before .if2 .taken
     in
     c .mic-right .ensures
-    ∙ sym (ap (λ (b : Bool). micRightBy (now (args .t)) (cond b (args .usual) (args .installed)) Downstream m) e)
+    ∙ sym (ap (λ (b : Bool). micRightBy (cond b (args .usual) (args .installed)) Downstream m) e)
 
 returns-3 : tie.Need-returns-3
 unfolding genuineBy
@@ -56,7 +56,7 @@ returns-3 c =
     ∙ c .before .if2 .left
     in
     c .mic-right2 .ensures
-    ∙ sym (ap (λ (b : Bool). micRightBy (now (args .t)) (cond b (args .usual) (args .installed)) Downstream m) e)
+    ∙ sym (ap (λ (b : Bool). micRightBy (cond b (args .usual) (args .installed)) Downstream m) e)
 
 pub genuine-spec : {M : Type 1} → statement M
 genuine-spec =

@@ -5,7 +5,7 @@ use mathlib.Core.List.{_∷_}
 use Prim.Native.Nat.{ℕ}
 use denote.Ref.{now}
 use lib.ListN.{take}
-use Rattle.cmac.specs.ByTable.{mac64By}
+use Rattle.cmac.specs.Tags.{mac64By}
 use Rattle.ploam.specs.Layout.{coveredOctets}
 use borrow.Author.Needs.{needs}
 use Rattle.integrity.proofs.mic.Statement.{statement}
@@ -27,7 +27,7 @@ returns : tie.Need-returns
 returns c =
     let args = c .before .before .before .before .before .args in
     c .mac64 .ensures
-    ∙ ap (mac64By (now (args .t)) (args .key))
+    ∙ ap (mac64By (args .key))
     (c .before .before .with-code .ensures
     ∙ ap (λ (code : ℕ). code ∷ take coveredOctets (now (args .m))) (c .before .before .before .direction-code .ensures))
 

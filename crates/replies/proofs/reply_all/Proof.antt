@@ -5,7 +5,7 @@ use Prim.Native.Nat.{ℕ, _<_, _^_}
 use denote.Ref.{now}
 use lib.ListN.{length}
 use Rattle.replies.specs.Replies.{repliesFrom}
-use Rattle.replies.proofs.Laws.{keyed-held, keyed-none, room-for}
+use Rattle.replies.proofs.Laws.{keyed, room-for}
 use borrow.Author.Needs.{needs}
 use Rattle.replies.proofs.reply_all.Statement.{statement}
 use Rattle.replies.proofs.reply_all.Tie as tie
@@ -20,43 +20,25 @@ fewer-requires c κs = search needs
 returns : tie.Need-returns
 returns c = rw (sym (c .before .fewer .ensures) ∙ c .if1 .taken)
 
-table-requires : tie.Need-table-requires
-table-requires c κs = search needs
-
 default-key-requires : tie.Need-default-key-requires
 default-key-requires c κs = search needs
 
-prepared-requires : tie.Need-prepared-requires
-prepared-requires c κs = search needs
+installed-key-requires : tie.Need-installed-key-requires
+installed-key-requires c κs = search needs
 
 write-each-requires : tie.Need-write-each-requires
 write-each-requires c κs =
-    let a = c .before .before .before .before .before .before .before .before .before .before .before .before .before .args in
-    let r = room-for (a .n) _ (length (now (a .replies))) (c .before .before .before .before .before .before .before .before .before .before .before .fewer .ensures) (known (c .before .before .before .before .before .before .before .before .before .before .before)) in
-    let ready = c .before .before .prepared .ensures in
-    (keyed-held _ _ _ (a .s .link .key) (c .before .before .before .before .before .before .before .before .before .table .ensures) (c .before .before .before .before .if2 .taken) (c .before .before .before .before .before .before .before .before .default-key .ensures) (ready .0 .made) (ready .0 .octets) (ready .1), r .0, r .1)
+    let a = c .before .before .before .before .before .before .before .before .args in
+    let r = room-for (a .n) _ (length (now (a .replies))) (c .before .before .before .before .before .before .fewer .ensures) (known (c .before .before .before .before .before .before)) in
+    (keyed _ _ (a .s .link .key) (c .before .before .before .before .default-key .ensures) (c .before .installed-key .ensures), r .0, r .1)
 
 same-length : tie.Need-same-length
 same-length c = search needs
 
 returns-2 : tie.Need-returns-2
 returns-2 c =
-    let a = c .before .before .before .before .before .before .before .before .before .before .before .before .before .before .before .before .args in
-    c .before .before .write-each .ensures ∙ ap (λ (k : ℕ). repliesFrom (a .s) (a .delay) (now (a .replies)) 0 k) (c .before .before .before .before .before .before .before .before .before .before .before .before .before .before .fewer .ensures)
-
-write-each-requires-2 : tie.Need-write-each-requires-2
-write-each-requires-2 c κs =
     let a = c .before .before .before .before .before .before .before .before .before .before .before .args in
-    let r = room-for (a .n) _ (length (now (a .replies))) (c .before .before .before .before .before .before .before .before .before .fewer .ensures) (known (c .before .before .before .before .before .before .before .before .before)) in
-    (keyed-none _ _ (a .s .link .key) (c .before .before .before .before .before .before .before .table .ensures) (c .before .before .if2 .left) (c .before .before .before .before .before .before .default-key .ensures), r .0, r .1)
-
-same-length-2 : tie.Need-same-length-2
-same-length-2 c = search needs
-
-returns-3 : tie.Need-returns-3
-returns-3 c =
-    let a = c .before .before .before .before .before .before .before .before .before .before .before .before .before .before .args in
-    c .before .before .write-each2 .ensures ∙ ap (λ (k : ℕ). repliesFrom (a .s) (a .delay) (now (a .replies)) 0 k) (c .before .before .before .before .before .before .before .before .before .before .before .before .fewer .ensures)
+    c .before .before .write-each .ensures ∙ ap (λ (k : ℕ). repliesFrom (a .s) (a .delay) (now (a .replies)) 0 k) (c .before .before .before .before .before .before .before .before .before .fewer .ensures)
 
 pub reply-all-spec : {M : Type 1} → statement M
 reply-all-spec =
@@ -64,12 +46,8 @@ reply-all-spec =
     (tie.spec
     fewer-requires
     returns
-    table-requires
     default-key-requires
-    prepared-requires
+    installed-key-requires
     write-each-requires
     same-length
-    returns-2
-    write-each-requires-2
-    same-length-2
-    returns-3)
+    returns-2)

@@ -15,10 +15,10 @@ use Rattle.replies.proofs.write_each.Statement.{statement}
 use Rattle.replies.proofs.write_each.Tie as tie
 
 abbrev Inv-loop : tie.InvT-loop
-Inv-loop t usual installed n delay replies₀ next₀ i₀ replies next i = (length replies ≡ length replies₀) × (48 * n ≤ length replies₀) × (n < 2 ^ 63) × (i ≤ n) × (Keyed t usual installed (next .link .key)) × (repliesFrom next delay replies i (n - i) ≡ repliesFrom next₀ delay replies₀ 0 n)
+Inv-loop usual installed n delay replies₀ next₀ i₀ replies next i = (length replies ≡ length replies₀) × (48 * n ≤ length replies₀) × (n < 2 ^ 63) × (i ≤ n) × (Keyed usual installed (next .link .key)) × (repliesFrom next delay replies i (n - i) ≡ repliesFrom next₀ delay replies₀ 0 n)
 
 abbrev μ-loop : tie.MeasureT-loop
-μ-loop t usual installed n delay replies₀ next₀ i₀ replies next i = n - i
+μ-loop usual installed n delay replies₀ next₀ i₀ replies next i = n - i
 
 loop-holds : tie.Need-loop-holds Inv-loop μ-loop
 loop-holds c = (refl, c .before .pre .1, c .before .pre .2, omega arith, c .before .pre .0, rw sub-zero)
@@ -66,7 +66,7 @@ loop-again c =
       l .inv .1,
       l .inv .2,
       omega (arith, c .before .before .before .before .before .loop-test .taken),
-      rw (c .after-reply .ensures) (keyed-after (now (a .t)) (a .usual) (a .installed) (l .next) (l .inv .4)),
+      rw (c .after-reply .ensures) (keyed-after (a .usual) (a .installed) (l .next) (l .inv .4)),
       replies-turn (l .next) (a .delay) b (a .n) (l .i) _ _ (c .before .before .before .before .before .loop-test .taken) (c .after-reply .ensures) p ∙ l .inv .5,
     )
 

@@ -32,7 +32,7 @@ unfolding wrote
 returns-2 c =
     let a = c .before .before .before .before .before .before .before .before .before .before .args in
     rw (sym (c .before .before .before .before .before .before .before .reply-of .ensures) ∙ c .before .before .before .before .before .message .given .1)
-    (written-true (now (a .t)) (a .usual) (a .installed) (a .s .link .key) _ (a .s .registration) (now (a .target)) _ (c .before .before .before .before .before .before .before .before .before .before .pre) (c .before .before .write .ensures))
+    (written-true (a .usual) (a .installed) (a .s .link .key) _ (a .s .registration) (now (a .target)) _ (c .before .before .before .before .before .before .before .before .before .before .pre) (c .before .before .write .ensures))
 
 pub write-reply-spec : {M : Type 1} → statement M
 write-reply-spec =

@@ -8,7 +8,7 @@ use denote.Ref.{now}
 use lib.ListN.{length, take, drop}
 use borrow.Author.Needs.{needs}
 use borrow.Author.Tests.{not-true, not-false}
-use Rattle.activation.specs.Receiving.{messageAt}
+use Rattle.ploam.specs.Layout.{messageAt}
 use Rattle.activation.specs.Inert.{inert, pastInert}
 use Rattle.activation.proofs.PassingOver.{past-turn, past-found, past-end}
 use Rattle.activation.proofs.inert.past_inert.Statement.{statement}

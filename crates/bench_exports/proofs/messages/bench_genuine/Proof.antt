@@ -1,4 +1,4 @@
--- `bench_exports::messages::bench_genuine` meets its contract: the table and both keys are the true ones.
+-- `bench_exports::messages::bench_genuine` meets its contract: both keys are the true ones.
 -- Assumes nothing.
 use mathlib.Core.Path.{refl, ap, ap₂, _∙_}
 use mathlib.Core.List.{List}
@@ -7,8 +7,7 @@ use Prim.Native.Nat.{ℕ, _/_}
 use denote.Ref.{now}
 use lib.ListN.{length}
 use Rattle.aes.specs.Words.{wordsOf, Octets}
-use Rattle.aes.specs.MixTable.{mixTable}
-use Rattle.cmac.specs.ByTable.{preparedBy}
+use Rattle.cmac.specs.Tags.{preparedBy}
 use Rattle.cmac.specs.declared.Prepared.{Prepared}
 use Rattle.integrity.specs.Integrity.{defaultKey}
 use Rattle.activation.specs.Receiving.{messagesIn}
@@ -17,9 +16,6 @@ use Rattle.bench_exports.proofs.Counted.{count-true}
 use borrow.Author.Needs.{needs}
 use Rattle.bench_exports.proofs.messages.bench_genuine.Statement.{statement}
 use Rattle.bench_exports.proofs.messages.bench_genuine.Tie as tie
-
-table-requires : tie.Need-table-requires
-table-requires c κs = search needs
 
 default-key-requires : tie.Need-default-key-requires
 default-key-requires c κs = search needs
@@ -32,15 +28,13 @@ count-genuine-requires c κs = search needs
 
 returns : tie.Need-returns
 returns c =
-    let table = c .before .before .before .before .before .table in
-    let b = now (c .before .before .before .before .before .before .before .args .messages) in
-    let o : Octets b = λ i. omega (arith, c .before .before .before .before .before .before .shared-slice-known .given i) in
-    let ready = c .before .before .prepare .ensures in
+    let b = now (c .before .before .before .before .args .messages) in
+    let o : Octets b = λ i. omega (arith, c .before .before .before .shared-slice-known .given i) in
+    let ready = c .before .prepare .ensures in
     c .count-genuine .ensures
-    ∙ ap₂ (λ (u p : Prepared). genuineCountBy (table .result) u p (messagesIn b)) (c .before .before .before .before .default-key .ensures) (ready .made)
-    ∙ ap (λ (t : List ℕ). genuineCountBy t (preparedBy mixTable (wordsOf defaultKey)) (preparedBy t (wordsOf benchKey)) (messagesIn b)) (table .ensures)
+    ∙ ap₂ (λ (u p : Prepared). genuineCountBy u p (messagesIn b)) (c .before .before .default-key .ensures) (ready .made)
     ∙ count-true benchKey b (ready .octets) refl o (length b / 48) 0
 
 pub bench-genuine-spec : {M : Type 1} → statement M
 bench-genuine-spec =
-    tie.close (tie.spec table-requires default-key-requires prepare-requires count-genuine-requires returns)
+    tie.close (tie.spec default-key-requires prepare-requires count-genuine-requires returns)

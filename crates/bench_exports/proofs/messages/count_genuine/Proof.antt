@@ -15,10 +15,10 @@ use Rattle.bench_exports.proofs.messages.count_genuine.Statement.{state
 use Rattle.bench_exports.proofs.messages.count_genuine.Tie as tie
 
 abbrev Inv-loop : tie.InvT-loop
-Inv-loop t usual installed messages n sum₀ i₀ sum i = (n ≡ length messages / 48) × (i ≤ n) × (sum + genuineCountBy t usual installed (messagesFrom messages i (n - i)) ≡ genuineCountBy t usual installed (messagesIn messages)) × (n < 2 ^ 64) × (sum ≤ i)
+Inv-loop usual installed messages n sum₀ i₀ sum i = (n ≡ length messages / 48) × (i ≤ n) × (sum + genuineCountBy usual installed (messagesFrom messages i (n - i)) ≡ genuineCountBy usual installed (messagesIn messages)) × (n < 2 ^ 64) × (sum ≤ i)
 
 abbrev μ-loop : tie.MeasureT-loop
-μ-loop t usual installed messages n sum₀ i₀ sum i = n - i
+μ-loop usual installed messages n sum₀ i₀ sum i = n - i
 
 loop-holds : tie.Need-loop-holds Inv-loop μ-loop
 loop-holds c = (refl, omega arith, rw sub-zero (omega arith), omega arith, omega arith)
@@ -63,10 +63,10 @@ loop-again c =
     let a = c .before .before .before .before .before .before .args in
     let l = c .before .before .before .before .loop in
     let e : 48 * l .i + 48 - 48 * l .i ≡ 48 = omega arith in
-    let g = c .before .genuine .ensures ∙ ap (λ (k : ℕ). genuineBy (now (a .t)) (a .usual) (a .installed) (take k (drop (48 * l .i) (now (a .messages))))) e in (
+    let g = c .before .genuine .ensures ∙ ap (λ (k : ℕ). genuineBy (a .usual) (a .installed) (take k (drop (48 * l .i) (now (a .messages))))) e in (
       l .inv .0,
       omega arith,
-      counted (now (a .t)) (a .usual) (a .installed) (now (a .messages)) _ (l .i) (l .sum) _ (c .before .before .before .loop-test .taken) (c .one-if .ensures .0 ∙ ap oneIf g) ∙ l .inv .2,
+      counted (a .usual) (a .installed) (now (a .messages)) _ (l .i) (l .sum) _ (c .before .before .before .loop-test .taken) (c .one-if .ensures .0 ∙ ap oneIf g) ∙ l .inv .2,
       l .inv .3,
       omega (arith, c .one-if .ensures .1, l .inv .4),
     )
@@ -75,7 +75,7 @@ returns : tie.Need-returns Inv-loop μ-loop
 returns c =
     let a = c .before .before .before .args in
     let l = c .before .loop in
-    counted-all (now (a .t)) (a .usual) (a .installed) (now (a .messages)) _ (l .i) (l .sum) (c .loop-test .left) ∙ l .inv .2
+    counted-all (a .usual) (a .installed) (now (a .messages)) _ (l .i) (l .sum) (c .loop-test .left) ∙ l .inv .2
 
 pub count-genuine-spec : {M : Type 1} → statement M
 count-genuine-spec =

@@ -6,7 +6,7 @@ use Prim.Native.Nat.{ℕ}
 use denote.Ref.{now}
 use lib.ListN.{length}
 use lib.Seq.{paste}
-use Rattle.cmac.specs.ByTable.{mac64By}
+use Rattle.cmac.specs.Tags.{mac64By}
 use Rattle.ploam.specs.Layout.{coveredOctets}
 use Rattle.integrity.specs.Integrity.{covered}
 use Rattle.upstream.proofs.Laid.{laid-wide, laid-short, laid-done}
@@ -17,7 +17,7 @@ use Rattle.upstream.proofs.writing.put.Tie as tie
 returns : tie.Need-returns
 returns c =
     let args = c .before .before .before .args in
-    laid-short (mac64By (now (args .t)) (args .key) (covered (args .direction) (now (args .b)))) (now (args .b))
+    laid-short (mac64By (args .key) (covered (args .direction) (now (args .b)))) (now (args .b))
     (now (args .target)) (args .fits) (c .before .if1 .taken) (c .if2 .taken)
 
 sign-requires : tie.Need-sign-requires
@@ -41,7 +41,7 @@ returns-2 c =
     let args = signed .before .before .before .before .args in
     let l : length (now (args .b)) ≡ coveredOctets = search needs in
     let first = c .before .before .before .before .before .before .before .lay in
-    laid-done (mac64By (now (args .t)) (args .key) (covered (args .direction) (now (args .b)))) (now (args .b))
+    laid-done (mac64By (args .key) (covered (args .direction) (now (args .b)))) (now (args .b))
     (now (args .target)) (first .last .0) (c .before .before .lay2 .last .0) (args .fits) (signed .before .before .if1 .taken)
     (signed .before .if2 .left) l refl (first .ensures)
     (c .before .before .lay2 .ensures
@@ -50,7 +50,7 @@ returns-2 c =
 returns-3 : tie.Need-returns-3
 returns-3 c =
     let args = c .before .before .args in
-    laid-wide (mac64By (now (args .t)) (args .key) (covered (args .direction) (now (args .b)))) (now (args .b))
+    laid-wide (mac64By (args .key) (covered (args .direction) (now (args .b)))) (now (args .b))
     (now (args .target)) (args .fits) (c .if1 .left)
 
 pub put-spec : {M : Type 1} → statement M

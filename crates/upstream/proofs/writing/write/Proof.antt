@@ -49,7 +49,7 @@ returns c =
     let e : byDefault Upstream (upstreamAddress (args .message)) (upstreamType (args .message)) ≡ true =
     sym (chosen .before .by-default .ensures ∙ ap upstreamByDefault type) ∙ chosen .if1 .taken
     in
-    write-of (now (args .t)) (args .usual) (args .installed) (args .usual) (args .message) (args .id) (now (args .target))
+    write-of (args .usual) (args .installed) (args .usual) (args .message) (args .id) (now (args .target))
     (b .result) (onu .result) _ (b .ensures) (onu .ensures)
     (sym (ap (λ (b : Bool). cond b (args .usual) (args .installed)) e)) (c .before .before .put .ensures) (kind .ensures .1)
 
@@ -69,7 +69,7 @@ returns-2 c =
     let e : byDefault Upstream (upstreamAddress (args .message)) (upstreamType (args .message)) ≡ false =
     sym (chosen .before .by-default .ensures ∙ ap upstreamByDefault type) ∙ chosen .if1 .left
     in
-    write-of (now (args .t)) (args .usual) (args .installed) (args .installed) (args .message) (args .id) (now (args .target))
+    write-of (args .usual) (args .installed) (args .installed) (args .message) (args .id) (now (args .target))
     (b .result) (onu .result) _ (b .ensures) (onu .ensures)
     (sym (ap (λ (b : Bool). cond b (args .usual) (args .installed)) e)) (c .before .before .put2 .ensures) (kind .ensures .1)
 

@@ -1,0 +1,5 @@
+pub mod Columns
+pub mod First
+pub mod Second
+pub mod Third
+pub mod Fourth
