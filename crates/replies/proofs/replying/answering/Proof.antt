@@ -14,7 +14,7 @@ returns : tie.Need-returns
 returns c = rw (c .enum-told .given .1)
 
 returns-2 : tie.Need-returns-2
-returns-2 c = rw (c .response .given .1)
+returns-2 c = rw (c .before .response .given .1)
 
 pub answering-spec : {M : Type 1} → statement M
 answering-spec = tie.close (tie.spec enum-told enum-known-response returns returns-2)
