@@ -3,6 +3,7 @@ mod frames;
 mod memory;
 mod walk;
 
+pub use frames::HEADER_BYTES;
 pub use frames::Next;
 pub use walk::Delineation;
 pub use walk::MEMORY_BYTES;

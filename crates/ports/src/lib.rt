@@ -94,6 +94,17 @@ impl Ports {
         }
     }
 
+    // The parts together again.
+    pub fn of(ids: [PortId; ADDED_PORTS], lengths: [u16; SLOTS], waiting: [bool; SLOTS]) -> Ports
+        ensures { λ r. ⌜ r ≡ portsOf ids lengths waiting ⌝ }
+    {
+        Ports {
+            ids: ids,
+            lengths: lengths,
+            waiting: waiting,
+        }
+    }
+
     // The slot's unfinished SDU is dropped, and its port waits or not.
     pub fn drop_one(mut self, slot: usize, waits: bool) -> Ports
         ensures { λ r. ⌜ r ≡ dropOne self slot waits ⌝ }
