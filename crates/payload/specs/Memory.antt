@@ -41,15 +41,17 @@ partial memory slot have = take have (drop (slot * slotBytes) memory)
 unfoldable pub extended : List ℕ → ℕ → ℕ → List ℕ → List ℕ
 extended memory slot have body = put memory (slot * slotBytes + have) body
 
--- what a fragment leaves, by what it does. "PLI 0, Port-ID 65,535 and foreign ports have no effect." It drops the partial, and
--- "Dropping writes nothing." "LF 1 delivers", and "A last or only fragment isn't written to the slot." "LF 0 adds to the
--- port's slot"
+-- what a fragment leaves, by what it does
 unfoldable pub done : Receiver → Reassembly → PortId → List ℕ → Receiver
+-- "PLI 0, Port-ID 65,535 and foreign ports have no effect"
 done s Ignored port body = s
+-- "drops the partial"; "Dropping writes nothing"
 done s (Dropped slot waits) port body = receiverOf (dropOne (s .ports) slot waits) (s .bytes) (s .memory) (s .deliveries)
+-- "LF 1 delivers"; "A last or only fragment isn't written to the slot"
 done s (Delivered slot have) port body =
     receiverOf (delivered (s .ports) slot) (s .bytes + (4 + (have + length body))) (s .memory)
     (put (s .deliveries) (s .bytes) (delivery port (partial (s .memory) slot have ++ body)))
+-- "LF 0 adds to the port's slot"
 done s (Appended slot have) port body =
     receiverOf (appended (s .ports) slot (have + length body)) (s .bytes) (extended (s .memory) slot have body) (s .deliveries)
 
