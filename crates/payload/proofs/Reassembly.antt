@@ -4,7 +4,7 @@
 use mathlib.Core.Path.{_≡_, refl, sym, ap, ap₂, _∙_, subst}
 use mathlib.Core.Bool.{Bool, true, false, cond, _&&_}
 use mathlib.Core.List.{List, [], _∷_, _++_, append-assoc}
-use Prim.Native.Nat.{ℕ, zero, suc, _+_, _-_, _*_, _^_, _≤_, _<_}
+use Prim.Native.Nat.{ℕ, zero, suc, _+_, _-_, _^_, _≤_, _<_}
 use native.Mathlib.Omega.{arith}
 use borrow.Author.Tests.{ne-eqb, le-leb, le-ltb, lt-ltb}
 use lib.Dec.{eqb, ltb}
@@ -25,8 +25,7 @@ use Rattle.framing.proofs.RoundTrips.{frame-mended, octets-bytes}
 use Rattle.ids.specs.declared.Place.{Place}
 use Rattle.ids.specs.declared.Place.the-variants.{At}
 use Rattle.ports.specs.Limits.{slots, sduBytes}
-use Rattle.fragments.specs.declared.Reassembly.{Reassembly}
-use Rattle.fragments.specs.declared.Reassembly.the-variants.{Ignored, Dropped, Delivered, Appended}
+use Rattle.fragments.specs.declared.Reassembly.the-variants.{Delivered, Appended}
 use Rattle.fragments.specs.Fragments.{slotOf, atSlot, atPlace, reassemblyOf}
 use Rattle.payload.specs.declared.frames.Next.the-variants.{Frame}
 use Rattle.payload.specs.Frames.{nextOf}

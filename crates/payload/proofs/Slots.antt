@@ -8,7 +8,7 @@ use native.Mathlib.Omega.{arith}
 use lib.ListN.{length, take, drop, length-drop}
 use lib.Seq.{length-take-le}
 use Rattle.ports.specs.Limits.{slots, slotBytes}
-use Rattle.payload.specs.Memory.{put, partial, extended}
+use Rattle.payload.specs.Memory.{partial, extended}
 use Rattle.payload.specs.Walk.{memoryBytes}
 use Rattle.payload.proofs.Put.{length-put, put-onto, put-before, put-after}
 

@@ -7,7 +7,7 @@ use framing::xgem;
 use framing::xgem::XgemHeader;
 use hec::Reading64;
 
-pub const HEADER_BYTES: usize = 8;
+pub const XGEM_HEADER_BYTES: usize = 8;
 
 pub enum Next {
     Done,
@@ -19,14 +19,14 @@ pub(crate) fn next_frame(left: &[u8]) -> Next
     ensures { λ r. ⌜ (r ≡ nextOf (now (left .entry))) × (Inside r (length (now (left .entry)))) ⌝ }
 {
     let read = hec::read64_by_octets(framing::word_ahead(left));
-    if left.len() < HEADER_BYTES {
+    if left.len() < XGEM_HEADER_BYTES {
         return Next::Done;
     }
     match read {
         Reading64::Unreadable => Next::Lost,
         Reading64::Word(w) => {
             let x = XgemHeader::of(w);
-            if left.len() - HEADER_BYTES < xgem::payload_size(x.pli) {
+            if left.len() - XGEM_HEADER_BYTES < xgem::payload_size(x.pli) {
                 Next::Lost
             } else {
                 Next::Frame(x)

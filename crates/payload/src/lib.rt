@@ -3,8 +3,8 @@ mod frames;
 mod memory;
 mod walk;
 
-pub use frames::HEADER_BYTES;
 pub use frames::Next;
+pub use frames::XGEM_HEADER_BYTES;
 pub use walk::Delineation;
 pub use walk::MEMORY_BYTES;
 pub use walk::Received;

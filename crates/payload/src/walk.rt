@@ -101,7 +101,7 @@ fn walk_frames(
                 return lost(Ports::of(ids, lengths, waiting), bytes);
             }
             Next::Frame(x) => {
-                let body = at + frames::HEADER_BYTES;
+                let body = at + frames::XGEM_HEADER_BYTES;
                 let size = xgem::payload_size(x.pli);
                 let end = body + x.pli as usize;
                 let port = x.port;

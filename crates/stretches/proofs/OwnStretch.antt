@@ -4,7 +4,7 @@ use mathlib.Core.Path.{_≡_, refl, sym, ap, ap₂, _∙_, subst}
 use mathlib.Core.Logic.{_⊎_, inl, inr}
 use mathlib.Core.Bool.{Bool, true, false, cond}
 use mathlib.Core.List.{List, [], _∷_, _++_}
-use Prim.Native.Nat.{ℕ, zero, suc, _+_, _-_, _*_, _≤_, _<_}
+use Prim.Native.Nat.{ℕ, zero, suc, _+_, _-_, _≤_, _<_}
 use native.Mathlib.Nat.{add-assoc}
 use native.Mathlib.Omega.{arith}
 use borrow.Author.Tests.{eqb-true}
@@ -22,7 +22,7 @@ use Rattle.fragments.specs.Fragments.{reassemblyOf}
 use Rattle.payload.specs.declared.frames.Next.{Next}
 use Rattle.payload.specs.declared.frames.Next.the-variants.{Done, Lost, Frame}
 use Rattle.stretches.specs.declared.Extent.{Extent}
-use Rattle.payload.specs.Frames.{Xgem, headerBytes, nextOf, Parsed, ended, with, frameOf, parse}
+use Rattle.payload.specs.Frames.{Xgem, xgemHeaderBytes, nextOf, Parsed, ended, with, frameOf, parse}
 use Rattle.payload.specs.Memory.{Receiver, partial, step}
 use Rattle.stretches.specs.Stretch.{noExtent, aloneAt, stretches, stretchOf, sduOf, sdus}
 use Rattle.payload.proofs.Slots.{nothing-held}
@@ -82,7 +82,7 @@ unfolding stretches sdus Own
 own-all payload own s [] c = λ k. inl refl
 own-all payload own s (x ∷ rest) c =
     let what = reassemblyOf (s .ports) own (x .port) (x .last) (length (x .body)) in
-    subst (λ (p : Ports). (k : ℕ) → Own payload (aloneAt what (x .place + headerBytes) (length (x .body)) ++ stretches own p rest) (sdus own s (x ∷ rest)) k)
+    subst (λ (p : Ports). (k : ℕ) → Own payload (aloneAt what (x .place + xgemHeaderBytes) (length (x .body)) ++ stretches own p rest) (sdus own s (x ∷ rest)) k)
     (ports-taken own s (x .port) (x .last) (x .body))
     (own-on payload (s .memory) what x (stretches own (step own s x .ports) rest) (sdus own (step own s x) rest) (c .0) (own-all payload own (step own s x) rest (c .1)))
 

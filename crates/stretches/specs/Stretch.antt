@@ -14,7 +14,7 @@ use Rattle.stretches.specs.declared.Extent.{Extent}
 use Rattle.stretches.specs.declared.Seek.{Seek}
 use Rattle.stretches.specs.declared.Seek.the-variants.{Ahead, Found}
 use Rattle.stretches.specs.declared.StretchPlace.{StretchPlace}
-use Rattle.payload.specs.Frames.{Xgem, headerBytes, Parsed, parse}
+use Rattle.payload.specs.Frames.{Xgem, xgemHeaderBytes, Parsed, parse}
 use Rattle.payload.specs.Memory.{Receiver, partial, step}
 
 -- the empty stretch
@@ -32,7 +32,7 @@ aloneAt (Appended slot have) at n = []
 unfoldable pub stretches : PortId → Ports → List Xgem → List Extent
 stretches own p [] = []
 stretches own p (x ∷ rest) =
-    aloneAt (reassemblyOf p own (x .port) (x .last) (length (x .body))) (x .place + headerBytes) (length (x .body))
+    aloneAt (reassemblyOf p own (x .port) (x .last) (length (x .body))) (x .place + xgemHeaderBytes) (length (x .body))
     ++ stretches own (portsAfter p (reassemblyOf p own (x .port) (x .last) (length (x .body))) (length (x .body))) rest
 
 -- the stretch of delivery k, counted from 0, by its place in the payload, and whether delineation was lost anywhere

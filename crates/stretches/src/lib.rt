@@ -11,8 +11,8 @@ use fragments::Reassembly;
 use framing::xgem;
 use framing::xgem::XgemRead;
 use ids::PortId;
-use payload::HEADER_BYTES;
 use payload::Next;
+use payload::XGEM_HEADER_BYTES;
 use ports::Ports;
 
 // So many bytes from a place of the payload.
@@ -95,7 +95,7 @@ fn next_ahead(left: &[u8]) -> Next
         XgemRead::Short => Next::Done,
         XgemRead::Unreadable => Next::Lost,
         XgemRead::Fields(x) => {
-            if left.len() < HEADER_BYTES + xgem::payload_size(x.pli) {
+            if left.len() < XGEM_HEADER_BYTES + xgem::payload_size(x.pli) {
                 Next::Lost
             } else {
                 Next::Frame(x)
@@ -134,7 +134,7 @@ pub fn stretch_place(ports: Ports, own: PortId, payload: &[u8], k: usize) -> Str
                 return settle(seek, true);
             }
             Next::Frame(x) => {
-                let body = at + HEADER_BYTES;
+                let body = at + XGEM_HEADER_BYTES;
                 let n = x.pli as usize;
                 let port = x.port;
                 let what = fragments::reassembly_of(held, own, port, x.last, x.pli);
