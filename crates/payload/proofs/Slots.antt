@@ -1,5 +1,5 @@
--- The bytes of unfinished SDUs in the memory. No proof but these, and those of the two functions that read and write them, looks at where a
--- slot stands.
+-- The bytes of unfinished SDUs in the memory. But for the proofs of `lay_partial` and `extend`, no other looks at where a slot
+-- stands.
 -- Assumes nothing.
 use mathlib.Core.Path.{_≡_, refl, ap}
 use mathlib.Core.List.{List, [], _++_}

@@ -1,4 +1,4 @@
--- `payload::memory::take_frame` meets its contract: in each arm it is known what the fragment does, and the law of that case says what is left.
+-- `payload::memory::take_frame` meets its contract: in each arm the law of what the fragment does says what is left.
 -- Assumes nothing.
 use denote.Ref.{now}
 use mathlib.Core.Path.{_≡_, refl, _∙_}
