@@ -71,16 +71,16 @@ uint8_t lingbarrow_power_on(uint8_t *state, size_t state_length, const uint8_t *
                             const uint8_t *registration, size_t registration_length);
 
 /* A frame has arrived, descrambled and error-corrected. 0 to 6.
- * `delay` is the random delay of Serial_Number_ONU in bit times.
+ * `random_delay` is that of Serial_Number_ONU in bit times.
  * The plan gets records of four numbers: Alloc-ID; flags (head 1, head's PLOAMu 2, DBRu 4, FWI 8, profile times 16); burst start
  * in words; GrantSize in words. Replies are messages of 48 bytes, one for each planned burst with PLOAMu, in order. Deliveries
  * are Port-ID (2 bytes), length (2), bytes, one after another.
  * `counts` gets records, replies and bytes of deliveries: size_t, so that they index the buffers as they are, and apart from the
  * state, so that a saved state has no leftovers of a call. What lies past the counts is as it was. */
 uint8_t lingbarrow_frame(uint8_t *state, size_t state_length, uint8_t *memory, size_t memory_length,
-                         const uint8_t *frame, size_t frame_length, uint32_t delay, uint16_t *plan, size_t plan_length,
-                         uint8_t *replies, size_t replies_length, uint8_t *deliveries, size_t deliveries_length,
-                         size_t *counts, size_t counts_length);
+                         const uint8_t *frame, size_t frame_length, uint32_t random_delay,
+                         uint16_t *plan, size_t plan_length, uint8_t *replies, size_t replies_length,
+                         uint8_t *deliveries, size_t deliveries_length, size_t *counts, size_t counts_length);
 
 /* A frame time in which the synchroniser reports LODS. 0, 1 or 3. */
 uint8_t lingbarrow_lost(uint8_t *state, size_t state_length);

@@ -194,10 +194,10 @@ impl Station {
     }
 
     /// A frame has arrived. Lost delineation is no error here: the frame is otherwise done, and `lost` says so.
-    pub fn frame(&mut self, frame: &[u8], delay: u32, lent: &mut Buffers) -> Result<Counts, Error> {
+    pub fn frame(&mut self, frame: &[u8], random_delay: u32, lent: &mut Buffers) -> Result<Counts, Error> {
         let mut counts = [0usize; 3];
         let answer =
-            raw::frame(&mut self.0, &mut lent.memory, frame, delay, &mut lent.plan, &mut lent.replies, &mut lent.deliveries, &mut counts);
+            raw::frame(&mut self.0, &mut lent.memory, frame, random_delay, &mut lent.plan, &mut lent.replies, &mut lent.deliveries, &mut counts);
         let lost = match Error::of(answer) {
             None => false,
             Some(Error::DelineationLost) => true,

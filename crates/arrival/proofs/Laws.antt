@@ -1,14 +1,13 @@
 -- What a state in range and buffers that fit give to the stages of a frame.
 -- Assumes nothing.
-use Prim.Native.Nat.{ℕ, zero, suc, min, _+_, _-_, _*_, _/_, _≤_, _<_}
+use Prim.Native.Nat.{ℕ, suc, min, _+_, _-_, _/_, _≤_, _<_}
 use native.Mathlib.Omega.{arith}
 use native.Mathlib.Nat.{min-eq-left}
-use mathlib.Core.Path.{_≡_, refl, sym, _∙_, ap}
-use mathlib.Core.Bool.{Bool, true, false, cond, _&&_, _||_}
+use mathlib.Core.Path.{_≡_, refl, _∙_, ap, ap₂}
+use mathlib.Core.Bool.{Bool, true, false, cond, _||_}
 use mathlib.Core.List.{List, [], _∷_}
 use lib.Dec.{leb, eqb}
-use lib.ListN.{length, getD, take, drop, length-drop}
-use lib.Seq.{take-all}
+use lib.ListN.{length, getD, take, drop}
 use borrow.Author.Tests.{leb-true, le-leb, eqb-true}
 use Rattle.ids.specs.declared.PortId.{PortId}
 use Rattle.ids.specs.Ids.{managementPort}
@@ -20,7 +19,6 @@ use Rattle.activation.specs.Receiving.{receiveAll, messagesIn}
 use Rattle.replies.specs.Replies as replied
 use Rattle.replies.specs.Replies.{Replied, repliesFrom}
 use Rattle.xgtc.specs.declared.hlend.Hlend.{Hlend}
-use Rattle.ports.specs.declared.Ports.{Ports}
 use Rattle.ports.specs.Limits.{slots, slotBytes}
 use Rattle.ranges.specs.Ranges.{inRange, identityFits, allocsFit, portsFit, slotFits, emptySlot, partialFits, partialsFit}
 use Rattle.ranges.proofs.Tests.{both, join}
@@ -29,7 +27,6 @@ use Rattle.ploam.specs.Layout.{messageOctets}
 use Rattle.entries.specs.declared.Own.{Own}
 use Rattle.bwmap.specs.declared.Answer as planning
 use Rattle.bwmap.specs.declared.Plan.{Plan}
-use Rattle.series.specs.Limits.{burstsAFrame}
 use Rattle.bwmap.specs.Limits.{planNumbers}
 use Rattle.series.specs.Series.{Series, plannedOf}
 use Rattle.bwmap.specs.declared.Answer.the-variants.{Planned}
@@ -38,25 +35,25 @@ use Rattle.plan.specs.Records.{mark}
 use Rattle.bwmap.specs.Plan.{messages, counted, written, MapLeaves, Left}
 use Rattle.bwmap.proofs.Kept.{bursts-most}
 use Rattle.payload.specs.Walk.{Walked, memoryBytes, allWithin, fit, receiveOf}
-use Rattle.arrival.specs.Limits.{replyOctets}
-use Rattle.arrival.specs.Lengths.{Lent, enough, buffersFit}
+use Rattle.arrival.specs.Given.{Arrival, Lent, replyOctets, enough, buffersFit}
 use Rattle.payload.specs.declared.walk.Received.{Received}
 use Rattle.payload.proofs.Fit.{walked}
-use Rattle.arrival.specs.Partitions.{hlendOctets, mapEnd, headerEnd, mapOf, messagesOf, payloadOf}
-use Rattle.arrival.specs.Frame.{isOperating, isRanging, ownOf, planOf, plannedIn, repliesIn, walkedFrom, payloadIn, sentBy, next, answerTo, done, handled}
-use Rattle.entries.specs.Limits.{structureOctets}
+use Rattle.downstream.specs.Partitions.{hlendOctets, mapEnd, headerEnd, mapOf, messagesOf, payloadOf}
+use Rattle.downstream.proofs.Laws.{map-part, messages-part, payload-part}
+use Rattle.station.specs.States.{isOperating, isRanging}
+use Rattle.arrival.specs.Frame.{ownOf, planOf, plannedIn, repliesIn, walkedFrom, payloadIn, foundBy, next, answerTo, done, handled}
 
 -- ---- the buffers, one by one
 
-pub record Room (frame : ℕ) (lent : Lent) : Type 0 where
+pub record Room (a : Arrival) (lent : Lent) : Type 0 where
   pub memory : memoryBytes ≤ length (lent .memory)
   pub plan : planNumbers ≤ length (lent .plan)
   pub replies : replyOctets ≤ length (lent .replies)
-  pub deliveries : frame + memoryBytes ≤ length (lent .deliveries)
+  pub deliveries : length (a .octets) + memoryBytes ≤ length (lent .deliveries)
 
-pub room : (frame : ℕ) (lent : Lent) → buffersFit frame lent ≡ true → Room frame lent
+pub room : (a : Arrival) (lent : Lent) → buffersFit a lent ≡ true → Room a lent
 unfolding enough
-room frame lent h =
+room a lent h =
     let x1 = both (leb memoryBytes (length (lent .memory))) _ h in
     let x2 = both (leb planNumbers (length (lent .plan))) _ (x1 .1) in
     let x3 = both (leb replyOctets (length (lent .replies))) _ (x2 .1) in
@@ -157,42 +154,28 @@ payload-received s place payload memory deliveries own w long h room space opera
 
 -- ---- the frame, from its stages
 
--- the parts of the frame that the stages are lent, by the ends that were computed
-pub map-part : (h : Hlend) (f : List ℕ) (m : ℕ) → m ≡ mapEnd h → take (m - hlendOctets) (drop hlendOctets f) ≡ mapOf h f
-map-part h f m e =
-    let n : m - hlendOctets ≡ structureOctets * h .bwmap = omega (arith, e) in
-    ap (λ (k : ℕ). take k (drop hlendOctets f)) n
-
-pub messages-part
-    : (h : Hlend) (f : List ℕ) (m e : ℕ) → m ≡ mapEnd h → e ≡ headerEnd h → take (e - m) (drop m f) ≡ messagesOf h f
-messages-part h f m e p q =
-    let n : e - m ≡ messageOctets * h .ploam = omega (arith, p, q) in
-    ap (λ (k : ℕ). take k (drop m f)) n ∙ ap (λ (k : ℕ). take (messageOctets * h .ploam) (drop k f)) p
-
-pub payload-part : (h : Hlend) (f : List ℕ) (e : ℕ) → e ≡ headerEnd h → take (length f - e) (drop e f) ≡ payloadOf h f
-payload-part h f e q = take-all (length f - e) (drop e f) (omega (arith, length-drop e f)) ∙ ap (λ (k : ℕ). drop k f) q
-
-module _ (s : Station) (h : Hlend) (f : List ℕ) (delay : ℕ) (lent : Lent) where
+module _ (s : Station) (h : Hlend) (a : Arrival) (lent : Lent) where
   -- each stage's outcome by its own contract, in the order of the frame
-  pub from-stages
-      : (p : Plan) (plan replies memory deliveries : List ℕ) (sent : Station) (r : Received) (ended : Station) (answer : Answer) → Room (length f) lent
-      → p ≡ counted (s .carried) (plannedOf (ownOf s) (mapOf h f) (s .carried)) → plan ≡ written (plannedOf (ownOf s) (mapOf h f) (s .carried)) (lent .plan)
-      → Replied s (p .messages) delay (lent .replies) (record { station = sent; octets = replies })
-      → walked memory deliveries r ≡ walkedFrom s (headerEnd h) (payloadOf h f) (lent .memory) (lent .deliveries)
-      → ended ≡ frameEnd (receiveAll (withCarried (withPorts sent (r .ports)) (p .carried)) (messagesIn (messagesOf h f))) (isRanging (s .activation))
+  from-stages
+      : (p : Plan) (plan replies memory deliveries : List ℕ) (sent : Station) (r : Received) (ended : Station) (answer : Answer) → Room a lent
+      → p ≡ counted (s .carried) (plannedOf (ownOf s) (mapOf h (a .octets)) (s .carried)) → plan ≡ written (plannedOf (ownOf s) (mapOf h (a .octets)) (s .carried)) (lent .plan)
+      → Replied s (p .messages) (a .randomDelay) (lent .replies) (record { station = sent; octets = replies })
+      → walked memory deliveries r ≡ walkedFrom s (headerEnd h) (payloadOf h (a .octets)) (lent .memory) (lent .deliveries)
+      → ended ≡ frameEnd (receiveAll (withCarried (withPorts sent (r .ports)) (p .carried)) (messagesIn (messagesOf h (a .octets)))) (isRanging (s .activation))
       → answer ≡ answerTo (r .delineation)
       → record {
-        outcome = record { answer = answer; station = ended; records = p .records; replies = p .messages; bytes = r .bytes };
+        outcome = record { answer = answer; station = ended };
+        counts = record { records = p .records; replies = p .messages; bytes = r .bytes };
         lent = record { memory = memory; plan = plan; replies = replies; deliveries = deliveries };
-      } ≡ handled s h f delay lent
-  unfolding handled done plannedIn repliesIn payloadIn sentBy next
+      } ≡ handled s h a lent
+  unfolding handled done plannedIn repliesIn payloadIn foundBy next
   from-stages p plan replies memory deliveries sent r ended answer room eP ePlan eR eW eS eA =
       let own = ownOf s in
-      let m = mapOf h f in
+      let m = mapOf h (a .octets) in
       let n : min (p .messages) (length (lent .replies) / messageOctets) ≡ messages (plannedOf own m (s .carried))
       = ap (λ (x : Plan). min (x .messages) (length (lent .replies) / messageOctets)) eP ∙ all-replied own m (s .carried) (lent .replies) (room .replies) in
-      let eR' : record { station = sent; octets = replies } ≡ repliesFrom s delay (lent .replies) 0 (messages (plannedOf own m (s .carried)))
-      = eR ∙ ap (repliesFrom s delay (lent .replies) 0) n in
+      let eR' : record { station = sent; octets = replies } ≡ repliesFrom s (a .randomDelay) (lent .replies) 0 (messages (plannedOf own m (s .carried)))
+      = eR ∙ ap (repliesFrom s (a .randomDelay) (lent .replies) 0) n in
       rw (
         eS,
         eA,
@@ -206,3 +189,35 @@ module _ (s : Station) (h : Hlend) (f : List ℕ) (delay : ℕ) (lent : Lent) wh
         ap (λ (x : Walked). x .delineation) eW,
         eP,
       )
+
+  -- the same of the partitions by the ends that were computed, and of the station step by step
+  pub from-ends
+      : (m e : ℕ) → m ≡ mapEnd h → e ≡ headerEnd h
+      → (p : Plan) (plan replies memory deliveries : List ℕ) (sent : Station) (r : Received) (ported found acted : Station) (ranging : Bool) (ended : Station) (answer : Answer)
+      → Room a lent
+      → p ≡ counted (s .carried) (plannedOf (ownOf s) (take (m - hlendOctets) (drop hlendOctets (a .octets))) (s .carried))
+      → plan ≡ written (plannedOf (ownOf s) (take (m - hlendOctets) (drop hlendOctets (a .octets))) (s .carried)) (lent .plan)
+      → Replied s (p .messages) (a .randomDelay) (lent .replies) (record { station = sent; octets = replies })
+      → walked memory deliveries r ≡ walkedFrom s e (take (length (a .octets) - e) (drop e (a .octets))) (lent .memory) (lent .deliveries)
+      → ported ≡ withPorts sent (r .ports) → found ≡ withCarried ported (p .carried) → acted ≡ receiveAll found (messagesIn (take (e - m) (drop m (a .octets))))
+      → ranging ≡ isRanging (s .activation) → ended ≡ frameEnd acted ranging → answer ≡ answerTo (r .delineation)
+      → record {
+        outcome = record { answer = answer; station = ended };
+        counts = record { records = p .records; replies = p .messages; bytes = r .bytes };
+        lent = record { memory = memory; plan = plan; replies = replies; deliveries = deliveries };
+      } ≡ handled s h a lent
+  from-ends m e em ee p plan replies memory deliveries sent r ported found acted ranging ended answer room eP ePlan eR eW eT eF eM eG eS eA =
+      let map = map-part h (a .octets) m em in
+      let rest = payload-part h (a .octets) e ee in
+      let found-is : found ≡ withCarried (withPorts sent (r .ports)) (p .carried) = eF ∙ ap (λ (x : Station). withCarried x (p .carried)) eT in
+      let acted-is : acted ≡ receiveAll (withCarried (withPorts sent (r .ports)) (p .carried)) (messagesIn (messagesOf h (a .octets)))
+      = eM ∙ ap₂ receiveAll found-is (ap messagesIn (messages-part h (a .octets) m e em ee)) in
+      from-stages p plan replies memory deliveries sent r ended answer room
+      (eP ∙ ap (λ (x : List ℕ). counted (s .carried) (plannedOf (ownOf s) x (s .carried))) map)
+      (ePlan ∙ ap (λ (x : List ℕ). written (plannedOf (ownOf s) x (s .carried)) (lent .plan)) map)
+      eR
+      (eW
+      ∙ ap (λ (k : ℕ). walkedFrom s k (take (length (a .octets) - e) (drop e (a .octets))) (lent .memory) (lent .deliveries)) ee
+      ∙ ap (λ (x : List ℕ). walkedFrom s (headerEnd h) x (lent .memory) (lent .deliveries)) rest)
+      (eS ∙ ap₂ frameEnd acted-is eG)
+      eA

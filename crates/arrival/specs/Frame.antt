@@ -1,22 +1,17 @@
--- One frame: everything that the frame call returns and leaves, for every state, frame, random delay and lent buffer.
+-- One frame: everything that the frame call returns and leaves, for every state, arrival and lent buffer.
 -- Assumes nothing.
 use Prim.Native.Nat.{ℕ}
 use mathlib.Core.Path.{_≡_}
-use mathlib.Core.Bool.{Bool, true, false, not, cond}
+use mathlib.Core.Bool.{cond}
 use mathlib.Core.List.{List}
-use lib.Dec.{leb}
-use lib.ListN.{length}
 use Rattle.ids.specs.Ids.{managementPort}
 use Rattle.xgtc.specs.declared.hlend.Hlend.{Hlend}
-use Rattle.framing.specs.Reads.{Found, fields, unreadable, short}
-use Rattle.xgtc.specs.Reads.{readHlend}
-use Rattle.station.specs.declared.Activation.{Activation}
-use Rattle.station.specs.declared.Activation.the-variants.{Initial, SerialNumber, Ranging, Operation, Intermittent, EmergencyStop}
 use Rattle.station.specs.declared.Station.{Station}
 use Rattle.station.specs.declared.answers.Answer.{Answer}
-use Rattle.station.specs.declared.answers.Answer.the-variants.{Done, StateOutOfRange, FrameLengthUnfit, BufferTooShort, HlendUnreadable, HeaderTooLong, DelineationLost}
+use Rattle.station.specs.declared.answers.Answer.the-variants.{Done, BufferTooShort, DelineationLost}
+use Rattle.station.specs.declared.answers.Outcome.{Outcome}
+use Rattle.station.specs.States.{isOperating, isRanging}
 use Rattle.station.specs.Station.{withPorts, withCarried}
-use Rattle.ranges.specs.Ranges.{inRange}
 use Rattle.timing.specs.Timing.{frameEnd, unreadTime}
 use Rattle.activation.specs.Receiving.{receiveAll, messagesIn}
 use Rattle.replies.specs.Replies as replied
@@ -30,42 +25,37 @@ use Rattle.bwmap.specs.Plan.{records, messages, written}
 use Rattle.payload.specs.declared.walk.Delineation.{Delineation}
 use Rattle.payload.specs.declared.walk.Delineation.the-variants.{Kept, Lost, Unfit}
 use Rattle.payload.specs.Walk.{Walked, walkOf}
-use Rattle.arrival.specs.declared.Outcome.{Outcome}
-use Rattle.arrival.specs.Lengths.{Lent, lengthFits, buffersFit}
-use Rattle.arrival.specs.Partitions.{headerEnd, mapOf, messagesOf, payloadOf}
-
-abbrev pub isOperating : Activation → Bool
-isOperating Initial = false
-isOperating SerialNumber = false
-isOperating (Ranging left) = false
-isOperating Operation = true
-isOperating (Intermittent left) = false
-isOperating EmergencyStop = false
-
-abbrev pub isRanging : Activation → Bool
-isRanging Initial = false
-isRanging SerialNumber = false
-isRanging (Ranging left) = true
-isRanging Operation = false
-isRanging (Intermittent left) = false
-isRanging EmergencyStop = false
+use Rattle.downstream.specs.declared.Opening.{Opening}
+use Rattle.downstream.specs.declared.Opening.the-variants.{Refused, Unread, Opened}
+use Rattle.downstream.specs.Partitions.{headerEnd, mapOf, messagesOf, payloadOf}
+use Rattle.downstream.specs.Opening.{opening}
+use Rattle.arrival.specs.declared.Counts.{Counts}
+use Rattle.arrival.specs.declared.FrameOutcome.{FrameOutcome}
+use Rattle.arrival.specs.Given.{Arrival, Lent, buffersFit}
 
 -- what the call returns, and what the lent buffers then hold
-pub record Left : Type 0 where
+pub record FrameLeft : Type 0 where
   pub outcome : Outcome
+  pub counts : Counts
   pub lent : Lent
 
--- the three counts are 0
-abbrev pub without : Answer → Station → Outcome
-without answer s = record { answer = answer; station = s; records = 0; replies = 0; bytes = 0 }
+abbrev pub leaving : FrameOutcome → Lent → FrameLeft
+leaving r lent = record { outcome = r .outcome; counts = r .counts; lent = lent }
+
+abbrev pub noCounts : Counts
+noCounts = record { records = 0; replies = 0; bytes = 0 }
+
+-- nothing is written
+abbrev pub without : Answer → Station → FrameOutcome
+without answer s = record { outcome = record { answer = answer; station = s }; counts = noCounts }
 
 -- 1 to 3: "nothing changed"; "no frame time passes"
-abbrev pub refused : Answer → Station → Lent → Left
-refused answer s lent = record { outcome = without answer s; lent = lent }
+abbrev pub refused : Answer → Station → Lent → FrameLeft
+refused answer s lent = leaving (without answer s) lent
 
 -- 4 and 5: "the buffers are unchanged, a frame time passes"
-abbrev pub unread : Answer → Station → Lent → Left
-unread answer s lent = record { outcome = without answer (unreadTime s); lent = lent }
+abbrev pub unread : Answer → Station → Lent → FrameLeft
+unread answer s lent = leaving (without answer (unreadTime s)) lent
 
 -- ---- (a) "The plan, replies and deliveries follow the state in which the frame arrived"
 
@@ -73,8 +63,8 @@ abbrev pub ownOf : Station → Own
 ownOf s = record { activation = s .activation; onu = s .link .onu; allocs = s .link .allocs }
 
 -- the bursts that are planned
-unfoldable pub plannedIn : Station → Hlend → List ℕ → List Series
-plannedIn s h f = plannedOf (ownOf s) (mapOf h f) (s .carried)
+unfoldable pub plannedIn : Station → Hlend → Arrival → List Series
+plannedIn s h a = plannedOf (ownOf s) (mapOf h (a .octets)) (s .carried)
 
 -- what the walk over the map answers; no plan that passed 3 is too short
 abbrev pub planOf : planning.Answer → Plan
@@ -82,8 +72,8 @@ planOf (Planned p) = p
 planOf PlanTooShort = record { records = 0; bursts = 0; messages = 0; end = 0; carried = 0 }
 
 -- each planned burst with PLOAMu sends one reply
-unfoldable pub repliesIn : Station → List Series → ℕ → Lent → replied.Left
-repliesIn s l delay lent = repliesFrom s delay (lent .replies) 0 (messages l)
+unfoldable pub repliesIn : Station → List Series → Arrival → Lent → replied.Left
+repliesIn s l a lent = repliesFrom s (a .randomDelay) (lent .replies) 0 (messages l)
 
 -- "Payload, in O5 only": in every other state it is not walked
 abbrev pub walkedFrom : Station → ℕ → List ℕ → List ℕ → List ℕ → Walked
@@ -92,18 +82,18 @@ walkedFrom s place payload memory deliveries =
     (walkOf (managementPort (s .link .onu)) (record { ports = s .ports; bytes = 0; memory = memory; deliveries = deliveries }) place payload)
     (record { receiver = record { ports = s .ports; bytes = 0; memory = memory; deliveries = deliveries }; delineation = Kept })
 
-unfoldable pub payloadIn : Station → Hlend → List ℕ → Lent → Walked
-payloadIn s h f lent = walkedFrom s (headerEnd h) (payloadOf h f) (lent .memory) (lent .deliveries)
+unfoldable pub payloadIn : Station → Hlend → Arrival → Lent → Walked
+payloadIn s h a lent = walkedFrom s (headerEnd h) (payloadOf h (a .octets)) (lent .memory) (lent .deliveries)
 
 -- ---- (b) "Messages act one after another", (c) "Then one step from the state after the messages"
 
 -- the station that the messages find: answers sent are no longer owed, the ports are those after the payload, and the
 -- last burst's words beyond the frame are carried
-unfoldable pub sentBy : Station → List Series → replied.Left → Walked → Station
-sentBy s l r w = withCarried (withPorts (r .station) (w .receiver .ports)) (carriedOver (lastEnd (s .carried) l))
+unfoldable pub foundBy : Station → List Series → replied.Left → Walked → Station
+foundBy s l r w = withCarried (withPorts (r .station) (w .receiver .ports)) (carriedOver (lastEnd (s .carried) l))
 
-unfoldable pub next : Station → Hlend → List ℕ → Station → Station
-next s h f sent = frameEnd (receiveAll sent (messagesIn (messagesOf h f))) (isRanging (s .activation))
+unfoldable pub next : Station → Hlend → Arrival → Station → Station
+next s h a found = frameEnd (receiveAll found (messagesIn (messagesOf h (a .octets)))) (isRanging (s .activation))
 
 -- 6: "delineation lost, the frame otherwise done". What passed 1 and 3 is fit to be walked
 abbrev pub answerTo : Delineation → Answer
@@ -114,16 +104,11 @@ answerTo Unfit = BufferTooShort
 -- ---- the frame
 
 -- with the bursts l planned, the replies r and the payload walked
-unfoldable pub done : Station → Hlend → List ℕ → Lent → List Series → replied.Left → Walked → Left
-done s h f lent l r w =
+unfoldable pub done : Station → Hlend → Arrival → Lent → List Series → replied.Left → Walked → FrameLeft
+done s h a lent l r w =
     record {
-      outcome = record {
-        answer = answerTo (w .delineation);
-        station = next s h f (sentBy s l r w);
-        records = records l;
-        replies = messages l;
-        bytes = w .receiver .bytes;
-      };
+      outcome = record { answer = answerTo (w .delineation); station = next s h a (foundBy s l r w) };
+      counts = record { records = records l; replies = messages l; bytes = w .receiver .bytes };
       lent = record {
         memory = w .receiver .memory;
         plan = written l (lent .plan);
@@ -132,24 +117,18 @@ done s h f lent l r w =
       };
     }
 
-unfoldable pub handled : Station → Hlend → List ℕ → ℕ → Lent → Left
-handled s h f delay lent =
-    done s h f lent (plannedIn s h f) (repliesIn s (plannedIn s h f) delay lent) (payloadIn s h f lent)
+unfoldable pub handled : Station → Hlend → Arrival → Lent → FrameLeft
+handled s h a lent =
+    done s h a lent (plannedIn s h a) (repliesIn s (plannedIn s h a) a lent) (payloadIn s h a lent)
 
--- 4: "HLend unreadable", 5: "header longer than frame". No frame that passed 2 is too short for HLend
-abbrev pub byHlend : Found Hlend → Station → List ℕ → ℕ → Lent → Left
-byHlend unreadable s f delay lent = unread HlendUnreadable s lent
-byHlend short s f delay lent = unread HlendUnreadable s lent
-byHlend (fields h) s f delay lent = cond (leb (headerEnd h) (length f)) (handled s h f delay lent) (unread HeaderTooLong s lent)
+abbrev pub byOpening : Opening → Station → Arrival → Lent → FrameLeft
+byOpening (Refused answer) s a lent = refused answer s lent
+byOpening (Unread answer) s a lent = unread answer s lent
+byOpening (Opened h) s a lent = handled s h a lent
 
--- "Tested in the order of the numbers"
-unfoldable pub frameLeft : Station → List ℕ → ℕ → Lent → Left
-frameLeft s f delay lent =
-    cond (not (inRange s)) (refused StateOutOfRange s lent)
-    (cond (not (lengthFits (length f))) (refused FrameLengthUnfit s lent)
-    (cond (not (buffersFit (length f) lent)) (refused BufferTooShort s lent)
-    (byHlend (readHlend f) s f delay lent)))
+unfoldable pub frameLeft : Station → Arrival → Lent → FrameLeft
+frameLeft s a lent = byOpening (opening s (a .octets) (buffersFit a lent)) s a lent
 
 -- the whole contract of the frame call
-abbrev pub FrameLeaves : Station → List ℕ → ℕ → Lent → Outcome → Lent → Type 0
-FrameLeaves s f delay lent outcome left = record { outcome = outcome; lent = left } ≡ frameLeft s f delay lent
+abbrev pub FrameLeaves : Station → Arrival → Lent → FrameOutcome → Lent → Type 0
+FrameLeaves s a lent r left = leaving r left ≡ frameLeft s a lent

@@ -1,4 +1,2 @@
-pub mod Limits
-pub mod Lengths
-pub mod Partitions
+pub mod Given
 pub mod Frame

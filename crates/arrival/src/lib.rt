@@ -3,74 +3,66 @@ ghost use mathlib.Core.Path.{_≡_};
 ghost use mathlib.Core.Bool.{true};
 ghost use Prim.Native.Nat.{_+_, _≤_};
 ghost use lib.ListN.{length};
-ghost use Rattle.xgtc.specs.Reads.{readHlend};
 ghost use Rattle.ranges.specs.Ranges.{inRange};
 ghost use Rattle.bwmap.specs.Limits.{planNumbers};
 ghost use Rattle.bwmap.specs.Plan.{counted, written};
 ghost use Rattle.series.specs.Series.{plannedOf};
 ghost use Rattle.payload.specs.Walk.{memoryBytes};
-ghost use Rattle.arrival.specs.Lengths.{lengthFits, buffersFit};
-ghost use Rattle.arrival.specs.Partitions.{headerEnd};
-ghost use Rattle.arrival.specs.Frame.{isOperating, isRanging, without, answerTo, planOf, ownOf, walkedFrom, handled, byHlend, FrameLeaves};
+ghost use Rattle.downstream.specs.Partitions.{headerEnd};
+ghost use Rattle.arrival.specs.Given.{arriving, lending, buffersFit};
+ghost use Rattle.arrival.specs.Frame.{leaving, noCounts, without, answerTo, planOf, ownOf, walkedFrom, handled, FrameLeaves};
 
-pub mod lengths;
-pub mod partitions;
+pub mod given;
 
 use bwmap::Plan;
+use downstream::Opening;
+use downstream::partitions;
 use entries::Own;
 use payload::Delineation;
 use payload::Received;
-use station::Activation;
 use station::Station;
 use station::answers::Answer;
+use station::answers::Outcome;
 use xgtc::hlend::Hlend;
-use xgtc::hlend::HlendRead;
 
-pub fn is_operating(a: Activation) -> bool
-    ensures { λ r. ⌜ r ≡ isOperating a ⌝ }
-{
-    match a {
-        Activation::Initial => false,
-        Activation::SerialNumber => false,
-        Activation::Ranging(_) => false,
-        Activation::Operation => true,
-        Activation::Intermittent(_) => false,
-        Activation::EmergencyStop => false,
-    }
-}
-
-fn is_ranging(a: Activation) -> bool
-    ensures { λ r. ⌜ r ≡ isRanging a ⌝ }
-{
-    match a {
-        Activation::Initial => false,
-        Activation::SerialNumber => false,
-        Activation::Ranging(_) => true,
-        Activation::Operation => false,
-        Activation::Intermittent(_) => false,
-        Activation::EmergencyStop => false,
-    }
-}
-
-// What a frame call answers, the station that it leaves, and how much it has written: records of four numbers in the plan,
-// messages of 48 octets in the replies, bytes in the deliveries.
-pub struct Outcome {
-    pub answer: Answer,
-    pub station: Station,
+// How much a frame call has written: records of four numbers in the plan, messages of 48 octets in the replies, bytes in the
+// deliveries.
+pub struct Counts {
     pub records: usize,
     pub replies: usize,
     pub bytes: usize,
 }
 
-fn without(answer: Answer, s: Station) -> Outcome
+impl Counts {
+    // Nothing is written.
+    pub fn none() -> Counts
+        ensures { λ r. ⌜ r ≡ noCounts ⌝ }
+    {
+        Counts {
+            records: 0,
+            replies: 0,
+            bytes: 0,
+        }
+    }
+}
+
+// What a frame call returns.
+pub struct FrameOutcome {
+    pub outcome: Outcome,
+    pub counts: Counts,
+}
+
+fn without(answer: Answer, s: Station) -> FrameOutcome
     ensures { λ r. ⌜ r ≡ without answer s ⌝ }
 {
-    Outcome {
+    let outcome = Outcome {
         answer: answer,
         station: s,
-        records: 0,
-        replies: 0,
-        bytes: 0,
+    };
+    let counts = Counts::none();
+    FrameOutcome {
+        outcome: outcome,
+        counts: counts,
     }
 }
 
@@ -130,7 +122,7 @@ fn receive_payload(
 {
     let ports = s.ports;
     let arrived = s.activation;
-    if !is_operating(arrived) {
+    if !arrived.is_operating() {
         return Received {
             ports: ports,
             bytes: 0,
@@ -149,62 +141,43 @@ fn receive_payload(
     )
 }
 
-// The header was read and lies within the frame: (a) plan, replies and deliveries, (b) the messages, (c) the frame's end.
+// The frame is open: (a) plan, replies and deliveries, (b) the messages, (c) the frame's end.
 fn handle(
     s: Station,
     h: Hlend,
     memory: &mut [u8],
     frame: &[u8],
-    delay: u32,
+    random_delay: u32,
     plan: &mut [u16],
     replies: &mut [u8],
     deliveries: &mut [u8],
-) -> Outcome
-    requires { ⌜ (inRange s ≡ true) × (headerEnd h ≤ length (now frame)) × (buffersFit (length (now frame)) (record { memory = now memory; plan = now plan; replies = now replies; deliveries = now deliveries }) ≡ true) ⌝ }
-    ensures { λ r. ⌜ record { outcome = r; lent = record { memory = now (memory .exit); plan = now (plan .exit); replies = now (replies .exit); deliveries = now (deliveries .exit) } } ≡ handled s h (now (frame .entry)) delay (record { memory = now (memory .entry); plan = now (plan .entry); replies = now (replies .entry); deliveries = now (deliveries .entry) }) ⌝ }
+) -> FrameOutcome
+    requires { ⌜ (inRange s ≡ true) × (headerEnd h ≤ length (now frame)) × (buffersFit (arriving (now frame) «random_delay») (lending (now memory) (now plan) (now replies) (now deliveries)) ≡ true) ⌝ }
+    ensures { λ r. ⌜ leaving r (lending (now (memory .exit)) (now (plan .exit)) (now (replies .exit)) (now (deliveries .exit))) ≡ handled s h (arriving (now (frame .entry)) «random_delay») (lending (now (memory .entry)) (now (plan .entry)) (now (replies .entry)) (now (deliveries .entry))) ⌝ }
 {
     let map = partitions::map_end(h);
     let end = partitions::header_end(h);
     let p = plan_bursts(s, &frame[partitions::HLEND_OCTETS..map], plan);
-    let sent = replies::reply_all(s, p.messages, delay, replies);
+    let sent = replies::reply_all(s, p.messages, random_delay, replies);
     let r = receive_payload(s, end, &frame[end..], memory, deliveries);
     let ports = r.ports;
     let found = sent.with_ports(ports).with_carried(p.carried);
     let acted = activation::receive_all(found, &frame[map..end]);
     let arrived = s.activation;
-    let ended = timing::frame_end(acted, is_ranging(arrived));
+    let ended = timing::frame_end(acted, arrived.is_ranging());
     let delineation = r.delineation;
-    Outcome {
+    let outcome = Outcome {
         answer: answer_to(delineation),
         station: ended,
+    };
+    let counts = Counts {
         records: p.records,
         replies: p.messages,
         bytes: r.bytes,
-    }
-}
-
-// The call is fit: 4, 5, or the frame as its header says.
-fn by_hlend(
-    s: Station,
-    memory: &mut [u8],
-    frame: &[u8],
-    delay: u32,
-    plan: &mut [u16],
-    replies: &mut [u8],
-    deliveries: &mut [u8],
-) -> Outcome
-    requires { ⌜ (inRange s ≡ true) × (buffersFit (length (now frame)) (record { memory = now memory; plan = now plan; replies = now replies; deliveries = now deliveries }) ≡ true) ⌝ }
-    ensures { λ r. ⌜ record { outcome = r; lent = record { memory = now (memory .exit); plan = now (plan .exit); replies = now (replies .exit); deliveries = now (deliveries .exit) } } ≡ byHlend (readHlend (now (frame .entry))) s (now (frame .entry)) delay (record { memory = now (memory .entry); plan = now (plan .entry); replies = now (replies .entry); deliveries = now (deliveries .entry) }) ⌝ }
-{
-    match xgtc::hlend::read_hlend(frame) {
-        HlendRead::Fields(h) => {
-            if frame.len() < partitions::header_end(h) {
-                return without(Answer::HeaderTooLong, timing::unread_time(s));
-            }
-            handle(s, h, memory, frame, delay, plan, replies, deliveries)
-        }
-        HlendRead::Unreadable => without(Answer::HlendUnreadable, timing::unread_time(s)),
-        HlendRead::Short => without(Answer::HlendUnreadable, timing::unread_time(s)),
+    };
+    FrameOutcome {
+        outcome: outcome,
+        counts: counts,
     }
 }
 
@@ -214,27 +187,23 @@ pub fn frame(
     s: Station,
     memory: &mut [u8],
     frame: &[u8],
-    delay: u32,
+    random_delay: u32,
     plan: &mut [u16],
     replies: &mut [u8],
     deliveries: &mut [u8],
-) -> Outcome
-    ensures { λ r. ⌜ FrameLeaves s (now (frame .entry)) delay (record { memory = now (memory .entry); plan = now (plan .entry); replies = now (replies .entry); deliveries = now (deliveries .entry) }) r (record { memory = now (memory .exit); plan = now (plan .exit); replies = now (replies .exit); deliveries = now (deliveries .exit) }) ⌝ }
+) -> FrameOutcome
+    ensures { λ r. ⌜ FrameLeaves s (arriving (now (frame .entry)) «random_delay») (lending (now (memory .entry)) (now (plan .entry)) (now (replies .entry)) (now (deliveries .entry))) r (lending (now (memory .exit)) (now (plan .exit)) (now (replies .exit)) (now (deliveries .exit))) ⌝ }
 {
-    if !ranges::in_range(s) {
-        return without(Answer::StateOutOfRange, s);
-    }
-    if !lengths::length_fits(frame.len()) {
-        return without(Answer::FrameLengthUnfit, s);
-    }
-    if !lengths::enough(
+    let room = given::enough(
         frame.len(),
         memory.len(),
         plan.len(),
         replies.len(),
         deliveries.len(),
-    ) {
-        return without(Answer::BufferTooShort, s);
+    );
+    match downstream::open(s, frame, room) {
+        Opening::Refused(answer) => without(answer, s),
+        Opening::Unread(answer) => without(answer, timing::unread_time(s)),
+        Opening::Opened(h) => handle(s, h, memory, frame, random_delay, plan, replies, deliveries),
     }
-    by_hlend(s, memory, frame, delay, plan, replies, deliveries)
 }

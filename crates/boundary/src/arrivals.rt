@@ -4,8 +4,10 @@ ghost use mathlib.Core.List.{[], _∷_};
 ghost use Prim.Native.Nat.{_≤_};
 ghost use lib.ListN.{length};
 ghost use Rattle.framing.specs.Writes.{put};
-ghost use Rattle.boundary.specs.Frames.{FrameLeft, PlaceLeft, counted, frameOn, placeOn};
+ghost use Rattle.arrival.specs.Given.{arriving, lending};
+ghost use Rattle.boundary.specs.Frames.{BuffersAre, PlaceIs, countNumbers, placeNumbers, counted, frameOn, placeOn};
 use super::states;
+use arrival::Counts;
 use layout::Standing;
 
 const STATE_OUT_OF_RANGE: u8 = 1;
@@ -16,17 +18,17 @@ const COUNTS: usize = 3;
 
 const PLACE: usize = 2;
 
-fn put_counts(counts: &mut [usize], records: usize, replies: usize, bytes: usize)
-    requires { ⌜ 3 ≤ length (now counts) ⌝ }
-    ensures { λ _. ⌜ now (counts .exit) ≡ counted (now (counts .entry)) records replies bytes ⌝ }
+fn put_counts(counts: &mut [usize], c: Counts)
+    requires { ⌜ countNumbers ≤ length (now counts) ⌝ }
+    ensures { λ _. ⌜ now (counts .exit) ≡ counted (now (counts .entry)) c ⌝ }
 {
-    counts[0] = records;
-    counts[1] = replies;
-    counts[2] = bytes;
+    counts[0] = c.records;
+    counts[1] = c.replies;
+    counts[2] = c.bytes;
 }
 
 fn put_place(place: &mut [usize], at: usize, bytes: usize)
-    requires { ⌜ 2 ≤ length (now place) ⌝ }
+    requires { ⌜ placeNumbers ≤ length (now place) ⌝ }
     ensures { λ _. ⌜ now (place .exit) ≡ put (now (place .entry)) (at ∷ (bytes ∷ [])) ⌝ }
 {
     place[0] = at;
@@ -39,13 +41,13 @@ pub extern "C" fn lingbarrow_frame(
     state: &mut [u8],
     memory: &mut [u8],
     frame: &[u8],
-    delay: u32,
+    random_delay: u32,
     plan: &mut [u16],
     replies: &mut [u8],
     deliveries: &mut [u8],
     counts: &mut [usize],
 ) -> u8
-    ensures { λ r. ⌜ _≡_ {A = FrameLeft} (record { answer = r; state = now (state .exit); counts = now (counts .exit); lent = record { memory = now (memory .exit); plan = now (plan .exit); replies = now (replies .exit); deliveries = now (deliveries .exit) } }) (frameOn (now (state .entry)) (now (frame .entry)) delay (now (counts .entry)) (record { memory = now (memory .entry); plan = now (plan .entry); replies = now (replies .entry); deliveries = now (deliveries .entry) })) ⌝ }
+    ensures { λ r. ⌜ BuffersAre r (now (state .exit)) (now (counts .exit)) (lending (now (memory .exit)) (now (plan .exit)) (now (replies .exit)) (now (deliveries .exit))) (frameOn (now (state .entry)) (arriving (now (frame .entry)) «random_delay») (now (counts .entry)) (lending (now (memory .entry)) (now (plan .entry)) (now (replies .entry)) (now (deliveries .entry)))) ⌝ }
 {
     if counts.len() < COUNTS {
         return BUFFER_TOO_SHORT;
@@ -55,18 +57,18 @@ pub extern "C" fn lingbarrow_frame(
     let s = read.station;
     match standing {
         Standing::Held => {
-            let o = engine::frame(s, memory, frame, delay, plan, replies, deliveries);
-            let answer = o.answer;
-            let next = o.station;
-            put_counts(counts, o.records, o.replies, o.bytes);
-            states::put_back(answer, next, state)
+            let r = engine::frame(s, memory, frame, random_delay, plan, replies, deliveries);
+            let written = r.counts;
+            put_counts(counts, written);
+            let outcome = r.outcome;
+            states::settle(outcome, state)
         }
         Standing::Unreadable => {
-            put_counts(counts, 0, 0, 0);
+            put_counts(counts, Counts::none());
             STATE_OUT_OF_RANGE
         }
         Standing::Short => {
-            put_counts(counts, 0, 0, 0);
+            put_counts(counts, Counts::none());
             BUFFER_TOO_SHORT
         }
     }
@@ -80,7 +82,7 @@ pub extern "C" fn lingbarrow_stretch(
     k: usize,
     place: &mut [usize],
 ) -> u8
-    ensures { λ r. ⌜ _≡_ {A = PlaceLeft} (record { answer = r; place = now (place .exit) }) (placeOn (now (state .entry)) (now (frame .entry)) k (now (place .entry))) ⌝ }
+    ensures { λ r. ⌜ PlaceIs r (now (place .exit)) (placeOn (now (state .entry)) (now (frame .entry)) k (now (place .entry))) ⌝ }
 {
     if place.len() < PLACE {
         return BUFFER_TOO_SHORT;

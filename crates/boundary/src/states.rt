@@ -2,14 +2,15 @@
 ghost use mathlib.Core.Path.{_≡_};
 ghost use Prim.Native.Nat.{_≤_};
 ghost use lib.ListN.{length, take};
+ghost use Rattle.link.specs.Limits.{keyOctets};
+ghost use Rattle.station.specs.Limits.{serialOctets, registrationOctets};
 ghost use Rattle.station.specs.Answers.{answerNumber};
 ghost use Rattle.layout.specs.Layout.{stored};
-ghost use Rattle.boundary.specs.Calls.{Left, lostOn, addOn, removeOn, keyOn, powerOnIn};
-use host::Outcome;
+ghost use Rattle.boundary.specs.Calls.{StateIs, lostOn, addOn, removeOn, keyOn, powerOnIn};
 use ids::PortId;
 use layout::Standing;
 use station::Station;
-use station::answers::Answer;
+use station::answers::Outcome;
 
 const STATE_OUT_OF_RANGE: u8 = 1;
 
@@ -21,53 +22,47 @@ const KEY_OCTETS: usize = 16;
 
 const REGISTRATION_OCTETS: usize = 36;
 
-fn octets8(c: &[u8]) -> [u8; 8]
-    requires { ⌜ 8 ≤ length (now c) ⌝ }
-    ensures { λ r. ⌜ r ≡ take 8 (now (c .entry)) ⌝ }
+fn serial_of(c: &[u8]) -> [u8; SERIAL_OCTETS]
+    requires { ⌜ serialOctets ≤ length (now c) ⌝ }
+    ensures { λ r. ⌜ r ≡ take serialOctets (now (c .entry)) ⌝ }
 {
-    let mut l = [0u8; 8];
-    bytes::copy(&c[0..8], &mut l);
+    let mut l = [0u8; SERIAL_OCTETS];
+    bytes::copy(&c[0..SERIAL_OCTETS], &mut l);
     l
 }
 
-fn octets16(c: &[u8]) -> [u8; 16]
-    requires { ⌜ 16 ≤ length (now c) ⌝ }
-    ensures { λ r. ⌜ r ≡ take 16 (now (c .entry)) ⌝ }
+fn key_of(c: &[u8]) -> [u8; KEY_OCTETS]
+    requires { ⌜ keyOctets ≤ length (now c) ⌝ }
+    ensures { λ r. ⌜ r ≡ take keyOctets (now (c .entry)) ⌝ }
 {
-    let mut l = [0u8; 16];
-    bytes::copy(&c[0..16], &mut l);
+    let mut l = [0u8; KEY_OCTETS];
+    bytes::copy(&c[0..KEY_OCTETS], &mut l);
     l
 }
 
-fn octets36(c: &[u8]) -> [u8; 36]
-    requires { ⌜ 36 ≤ length (now c) ⌝ }
-    ensures { λ r. ⌜ r ≡ take 36 (now (c .entry)) ⌝ }
+fn registration_of(c: &[u8]) -> [u8; REGISTRATION_OCTETS]
+    requires { ⌜ registrationOctets ≤ length (now c) ⌝ }
+    ensures { λ r. ⌜ r ≡ take registrationOctets (now (c .entry)) ⌝ }
 {
-    let mut l = [0u8; 36];
-    bytes::copy(&c[0..36], &mut l);
+    let mut l = [0u8; REGISTRATION_OCTETS];
+    bytes::copy(&c[0..REGISTRATION_OCTETS], &mut l);
     l
 }
 
 // The station goes back where it came from, and the answer by its number.
-pub(crate) fn put_back(answer: Answer, s: Station, state: &mut [u8]) -> u8
-    ensures { λ r. ⌜ (r ≡ answerNumber answer) × (now (state .exit) ≡ stored s (now (state .entry))) ⌝ }
-{
-    layout::write_state(s, state);
-    answer.number()
-}
-
-fn settle(o: Outcome, state: &mut [u8]) -> u8
+pub(crate) fn settle(o: Outcome, state: &mut [u8]) -> u8
     ensures { λ r. ⌜ (r ≡ answerNumber (o .answer)) × (now (state .exit) ≡ stored (o .station) (now (state .entry))) ⌝ }
 {
     let answer = o.answer;
     let station = o.station;
-    put_back(answer, station, state)
+    layout::write_state(station, state);
+    answer.number()
 }
 
 // A station that is powered on, in O1 with nothing held.
 #[no_mangle]
 pub extern "C" fn lingbarrow_power_on(state: &mut [u8], serial: &[u8], registration: &[u8]) -> u8
-    ensures { λ r. ⌜ _≡_ {A = Left} (record { answer = r; state = now (state .exit) }) (powerOnIn (now (state .entry)) (now (serial .entry)) (now (registration .entry))) ⌝ }
+    ensures { λ r. ⌜ StateIs r (now (state .exit)) (powerOnIn (now (state .entry)) (now (serial .entry)) (now (registration .entry))) ⌝ }
 {
     if state.len() < layout::STATE_BYTES {
         return BUFFER_TOO_SHORT;
@@ -78,7 +73,7 @@ pub extern "C" fn lingbarrow_power_on(state: &mut [u8], serial: &[u8], registrat
     if registration.len() < REGISTRATION_OCTETS {
         return BUFFER_TOO_SHORT;
     }
-    let s = Station::power_on(octets8(serial), octets36(registration));
+    let s = Station::power_on(serial_of(serial), registration_of(registration));
     layout::write_state(s, state);
     0
 }
@@ -86,7 +81,7 @@ pub extern "C" fn lingbarrow_power_on(state: &mut [u8], serial: &[u8], registrat
 // A frame time in which no frame arrived.
 #[no_mangle]
 pub extern "C" fn lingbarrow_lost(state: &mut [u8]) -> u8
-    ensures { λ r. ⌜ _≡_ {A = Left} (record { answer = r; state = now (state .exit) }) (lostOn (now (state .entry))) ⌝ }
+    ensures { λ r. ⌜ StateIs r (now (state .exit)) (lostOn (now (state .entry))) ⌝ }
 {
     let read = layout::read_state(state);
     let standing = read.standing;
@@ -100,7 +95,7 @@ pub extern "C" fn lingbarrow_lost(state: &mut [u8]) -> u8
 
 #[no_mangle]
 pub extern "C" fn lingbarrow_add_port(state: &mut [u8], port: u16) -> u8
-    ensures { λ r. ⌜ _≡_ {A = Left} (record { answer = r; state = now (state .exit) }) (addOn (now (state .entry)) port) ⌝ }
+    ensures { λ r. ⌜ StateIs r (now (state .exit)) (addOn (now (state .entry)) port) ⌝ }
 {
     let read = layout::read_state(state);
     let standing = read.standing;
@@ -115,7 +110,7 @@ pub extern "C" fn lingbarrow_add_port(state: &mut [u8], port: u16) -> u8
 
 #[no_mangle]
 pub extern "C" fn lingbarrow_remove_port(state: &mut [u8], port: u16) -> u8
-    ensures { λ r. ⌜ _≡_ {A = Left} (record { answer = r; state = now (state .exit) }) (removeOn (now (state .entry)) port) ⌝ }
+    ensures { λ r. ⌜ StateIs r (now (state .exit)) (removeOn (now (state .entry)) port) ⌝ }
 {
     let read = layout::read_state(state);
     let standing = read.standing;
@@ -130,12 +125,12 @@ pub extern "C" fn lingbarrow_remove_port(state: &mut [u8], port: u16) -> u8
 
 #[no_mangle]
 pub extern "C" fn lingbarrow_give_key(state: &mut [u8], key: &[u8]) -> u8
-    ensures { λ r. ⌜ _≡_ {A = Left} (record { answer = r; state = now (state .exit) }) (keyOn (now (state .entry)) (now (key .entry))) ⌝ }
+    ensures { λ r. ⌜ StateIs r (now (state .exit)) (keyOn (now (state .entry)) (now (key .entry))) ⌝ }
 {
     if key.len() < KEY_OCTETS {
         return BUFFER_TOO_SHORT;
     }
-    let octets = octets16(key);
+    let octets = key_of(key);
     let read = layout::read_state(state);
     let standing = read.standing;
     let s = read.station;

@@ -30,14 +30,14 @@ use Rattle.ports.specs.Ports.{portPlace, vacancy, addPort, removePort}
 use Rattle.station.specs.Station.{withLink, withPorts}
 use Rattle.ranges.specs.Ranges.{inRange}
 use Rattle.timing.specs.Timing.{lostTime}
-use Rattle.host.specs.declared.Outcome.{Outcome}
 use Rattle.host.specs.Host.{found}
 use Rattle.payload.specs.Frames.{parse}
-use Rattle.arrival.specs.Lengths.{Lent, lengthFits}
-use Rattle.arrival.specs.Partitions.{headerEnd, payloadOf}
-use Rattle.arrival.specs.Frame.{isOperating}
+use Rattle.downstream.specs.Lengths.{lengthFits}
+use Rattle.arrival.specs.Given.{Arrival, Lent}
+use Rattle.downstream.specs.Partitions.{headerEnd, payloadOf}
+use Rattle.station.specs.States.{isOperating}
 use Rattle.engine.specs.Answers.{Row}
-use Rattle.engine.specs.declared.alone.StretchPlace.{StretchPlace}
+use Rattle.engine.specs.declared.stretching.StretchPlace.{StretchPlace}
 use Rattle.engine.specs.Stretch.{empty, placeIn}
 use Rattle.demands.specs.Engine.{Engine}
 
@@ -147,7 +147,7 @@ WriteRow fit octets target WriteDone left = (fit ≡ true) × (leb (length octet
 WriteRow fit octets target Refused left = ((fit && leb (length octets) (length target)) ≡ false) × (left ≡ target)
 
 pub record Demand1 (E : Engine) : Type 0 where
-  pub frame : (s : Station) (f : List ℕ) (delay : ℕ) (lent : Lent) → Row s f delay lent (E .frame s f delay lent .outcome .answer) (E .frame s f delay lent)
+  pub frame : (s : Station) (a : Arrival) (lent : Lent) → Row s a lent (E .frame s a lent .outcome .answer) (E .frame s a lent)
   pub lost : (s : Station) → LostRow s (E .lost s .answer) (E .lost s .station)
   pub add : (s : Station) (port : PortId) → AddRow s port (E .addPort s port .answer) (E .addPort s port .station)
   pub remove : (s : Station) (port : PortId) → RemoveRow s port (E .removePort s port .answer) (E .removePort s port .station)

@@ -11,17 +11,17 @@ use Rattle.framing.specs.Writes as writing
 use Rattle.xgtc.specs.Writes as xgtc-writing
 use Rattle.station.specs.declared.Station.{Station}
 use Rattle.station.specs.Station as station
-use Rattle.host.specs.declared.Outcome.{Outcome}
+use Rattle.station.specs.declared.answers.Outcome.{Outcome}
 use Rattle.host.specs.Host.{afterAdd, afterRemove, afterKey}
-use Rattle.arrival.specs.Lengths.{Lent}
-use Rattle.arrival.specs.Frame.{Left, frameLeft}
-use Rattle.engine.specs.Times.{lostLeft}
-use Rattle.engine.specs.declared.alone.StretchPlace.{StretchPlace}
+use Rattle.arrival.specs.Given.{Arrival, Lent}
+use Rattle.arrival.specs.Frame.{FrameLeft, frameLeft}
+use Rattle.engine.specs.Lods.{lostLeft}
+use Rattle.engine.specs.declared.stretching.StretchPlace.{StretchPlace}
 use Rattle.engine.specs.Stretch.{stretchPlace}
 
 pub record Engine : Type 0 where
   pub powerOn : List ℕ → List ℕ → Station
-  pub frame : Station → List ℕ → ℕ → Lent → Left
+  pub frame : Station → Arrival → Lent → FrameLeft
   pub lost : Station → Outcome
   pub addPort : Station → PortId → Outcome
   pub removePort : Station → PortId → Outcome

@@ -28,5 +28,5 @@ pub record Sums : Type 1 where
   pub sum-9 : Sum9
   pub sum-10 : Sum10
   pub sum-11 : Sum11
-  -- Relative -1 at delay 0: unchanged, parameter error
+  -- Relative -1 at equalization delay 0: unchanged, parameter error
   pub sum-12 : Sum12

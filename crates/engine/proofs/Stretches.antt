@@ -3,16 +3,15 @@
 use Prim.Native.Nat.{ℕ, zero, suc, _+_, _-_, _≤_}
 use native.Mathlib.Omega.{arith}
 use mathlib.Core.Path.{_≡_, _∙_, refl, sym, ap, subst}
-use mathlib.Core.Bool.{Bool, true, false, not, cond}
+use mathlib.Core.Bool.{Bool, true, false, cond}
 use mathlib.Core.List.{List, [], _∷_, _++_}
-use lib.Dec.{eqb, leb}
-use lib.ListN.{length, getD, take, drop, length-take, length-drop}
+use lib.Dec.{eqb}
+use lib.ListN.{length, getD, drop, length-take, length-drop}
 use lib.Seq.{drop-drop}
-use borrow.Author.Tests.{le-leb, leb-true}
+use borrow.Author.Tests.{le-leb}
 use Rattle.ids.specs.declared.PortId.{PortId}
 use Rattle.ids.specs.Ids.{managementPort}
 use Rattle.xgtc.specs.declared.hlend.Hlend.{Hlend}
-use Rattle.framing.specs.declared.xgem.XgemHeader.{XgemHeader}
 use Rattle.framing.specs.Layouts.{payloadSize}
 use Rattle.framing.proofs.Frames.{covers}
 use Rattle.station.specs.declared.Station.{Station}
@@ -26,15 +25,15 @@ use Rattle.stretches.specs.declared.Extent.{Extent}
 use Rattle.stretches.specs.declared.StretchPlace as found
 use Rattle.payload.specs.Frames.{Xgem, nextOf, parse}
 use Rattle.stretches.specs.Stretch.{noExtent, aloneAt, stretches, stretchOf, cutOut}
-use Rattle.arrival.specs.Partitions.{headerEnd, payloadOf}
-use Rattle.arrival.specs.Frame.{isOperating}
-use Rattle.arrival.specs.Lengths.{lengthFits}
+use Rattle.downstream.specs.declared.Opening.{Opening}
+use Rattle.downstream.specs.declared.Opening.the-variants.{Refused, Unread, Opened}
+use Rattle.downstream.specs.Partitions.{headerEnd, payloadOf}
+use Rattle.downstream.specs.Opening.{opening}
+use Rattle.downstream.proofs.Laws.{opened}
 use Rattle.engine.specs.Stretch.{empty, answerIf, inFrame, placeIn, placeBy, stretchPlace, cut}
-use Rattle.engine.specs.declared.alone.StretchPlace.{StretchPlace}
-use Rattle.framing.specs.Reads.{Found, fields, unreadable, short}
-use Rattle.xgtc.specs.Reads.{readHlend}
-use Rattle.station.specs.declared.answers.Answer.the-variants.{Done, StateOutOfRange, FrameLengthUnfit, HeaderTooLong}
-use Rattle.ranges.specs.Ranges.{inRange}
+use Rattle.engine.specs.declared.stretching.StretchPlace.{StretchPlace}
+use Rattle.station.specs.declared.answers.Answer.the-variants.{Done}
+use Rattle.station.specs.States.{isOperating}
 use Rattle.payload.proofs.Walks.{frame-inside, parse-done, parse-lost, parse-next}
 
 abbrev AllInside : ℕ → List Xgem → Type 0
@@ -133,23 +132,14 @@ within-place s h f k fits = go (isOperating (s .activation))
     go true = in-frame (headerEnd h) (length f) (stretchOf own (s .ports) (payloadOf h f) k) (placed-inside s h f k own (payloadOf h f) (stretchOf own (s .ports) (payloadOf h f) k) refl fits refl)
     go false = omega arith
 
-by-hlend : (r : Found Hlend) (s : Station) (f : List ℕ) (k : ℕ) → Within (length f) (placeBy r s f k)
-by-hlend unreadable s f k = omega arith
-by-hlend short s f k = omega arith
-by-hlend (fields h) s f k = go (leb (headerEnd h) (length f)) refl
-  where
-    go : (b : Bool) → leb (headerEnd h) (length f) ≡ b → Within (length f) (cond b (placeIn s h f k) (empty HeaderTooLong))
-    go true e = within-place s h f k (leb-true (headerEnd h) (length f) e)
-    go false e = omega arith
-
 pub within-frame : (s : Station) (f : List ℕ) (k : ℕ) → Within (length f) (stretchPlace s f k)
 unfolding stretchPlace
-within-frame s f k = first (inRange s) (lengthFits (length f))
+within-frame s f k = go (opening s f true) refl
   where
-    first : (a b : Bool) → Within (length f) (cond (not a) (empty StateOutOfRange) (cond (not b) (empty FrameLengthUnfit) (placeBy (readHlend f) s f k)))
-    first false b = omega arith
-    first true false = omega arith
-    first true true = by-hlend (readHlend f) s f k
+    go : (o : Opening) → opening s f true ≡ o → Within (length f) (placeBy o s f k)
+    go (Refused answer) e = omega arith
+    go (Unread answer) e = omega arith
+    go (Opened h) e = within-place s h f k (opened s f true h e .fits)
 
 pub cut-fully
     : (s : Station) (f : List ℕ) (k : ℕ) (p : StretchPlace) → p ≡ stretchPlace s f k

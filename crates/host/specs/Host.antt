@@ -8,6 +8,7 @@ use Rattle.ids.specs.declared.PortId.{PortId}
 use Rattle.ids.specs.Ids.{assignablePort}
 use Rattle.station.specs.declared.answers.Answer.{Answer}
 use Rattle.station.specs.declared.answers.Answer.the-variants.{Done, StateOutOfRange, FrameLengthUnfit, BufferTooShort, HlendUnreadable, HeaderTooLong, DelineationLost, PortOutOfRange, PortHeldOrNotHeld, SlotsTaken, KeyRefused, NotWritten}
+use Rattle.station.specs.declared.answers.Outcome.{Outcome}
 use Rattle.station.specs.declared.Station.{Station}
 use Rattle.ids.specs.declared.Place.{Place}
 use Rattle.ids.specs.declared.Place.the-variants.{At, Nowhere}
@@ -16,7 +17,6 @@ use Rattle.link.specs.Link.{withKey, installed}
 use Rattle.ports.specs.Ports.{portPlace, vacancy, addPort, removePort}
 use Rattle.station.specs.Station.{withLink, withPorts}
 use Rattle.ranges.specs.Ranges.{inRange}
-use Rattle.host.specs.declared.Outcome.{Outcome}
 
 abbrev pub found : Place → Bool
 found (At i) = true

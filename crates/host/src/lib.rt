@@ -7,12 +7,7 @@ use ids::PortId;
 use link::Key;
 use station::Station;
 use station::answers::Answer;
-
-// What a call answers and the station that it leaves.
-pub struct Outcome {
-    pub answer: Answer,
-    pub station: Station,
-}
+use station::answers::Outcome;
 
 fn is_found(place: Place) -> bool
     ensures { λ r. ⌜ r ≡ found place ⌝ }

@@ -49,3 +49,21 @@ holdsIdentity (Ranging left) = true
 holdsIdentity Operation = true
 holdsIdentity (Intermittent left) = true
 holdsIdentity EmergencyStop = false
+
+-- O4
+abbrev pub isRanging : Activation → Bool
+isRanging Initial = false
+isRanging SerialNumber = false
+isRanging (Ranging left) = true
+isRanging Operation = false
+isRanging (Intermittent left) = false
+isRanging EmergencyStop = false
+
+-- O5
+abbrev pub isOperating : Activation → Bool
+isOperating Initial = false
+isOperating SerialNumber = false
+isOperating (Ranging left) = false
+isOperating Operation = true
+isOperating (Intermittent left) = false
+isOperating EmergencyStop = false

@@ -1,7 +1,7 @@
 // The station's state of clause 12, by value: where it stands in the activation, what the head end has given it, its
 // ports, and the words that its last burst carries into the next frame.
 ghost use mathlib.Core.Path.{_≡_};
-ghost use Rattle.station.specs.States.{holdsIdentity, silent, stateNumber};
+ghost use Rattle.station.specs.States.{holdsIdentity, isOperating, isRanging, silent, stateNumber};
 ghost use Rattle.station.specs.Station.{withActivation, withLink, withPorts, withCarried};
 ghost use Rattle.station.specs.Station.{powerOn, enter};
 use link::Link;
@@ -59,6 +59,33 @@ impl Activation {
             Activation::Operation => false,
             Activation::Intermittent(_) => true,
             Activation::EmergencyStop => true,
+        }
+    }
+
+    pub fn is_ranging(self) -> bool
+        ensures { λ r. ⌜ r ≡ isRanging self ⌝ }
+    {
+        match self {
+            Activation::Initial => false,
+            Activation::SerialNumber => false,
+            Activation::Ranging(_) => true,
+            Activation::Operation => false,
+            Activation::Intermittent(_) => false,
+            Activation::EmergencyStop => false,
+        }
+    }
+
+    // Only a frame that arrives in O5 has its payload walked.
+    pub fn is_operating(self) -> bool
+        ensures { λ r. ⌜ r ≡ isOperating self ⌝ }
+    {
+        match self {
+            Activation::Initial => false,
+            Activation::SerialNumber => false,
+            Activation::Ranging(_) => false,
+            Activation::Operation => true,
+            Activation::Intermittent(_) => false,
+            Activation::EmergencyStop => false,
         }
     }
 

@@ -1,44 +1,57 @@
 -- `arrival::frame` meets its contract.
 -- Assumes nothing.
-use mathlib.Core.Path.{_∙_, sym}
-use borrow.Author.Tests.{not-true, not-false}
+use mathlib.Core.Path.{_∙_, sym, ap}
+use denote.Ref.{now}
+use Rattle.downstream.specs.Opening.{opening}
+use Rattle.downstream.proofs.Laws.{opened}
+use Rattle.arrival.specs.Given.{Arrival, Lent, arriving, lending, buffersFit}
 use Rattle.arrival.specs.Frame.{frameLeft}
 use borrow.Author.Needs.{needs}
 use Rattle.arrival.proofs.frame.Statement.{statement}
 use Rattle.arrival.proofs.frame.Tie as tie
 
-in-range-requires : tie.Need-in-range-requires
-in-range-requires c κs = search needs
+abbrev arrived : tie.Start → Arrival
+arrived c = arriving (now (c .args .frame)) (c .args .random-delay)
 
-without-requires : tie.Need-without-requires
-without-requires c κs = search needs
-
-returns : tie.Need-returns
-unfolding frameLeft
-returns c = rw (c .without .ensures, sym (c .before .before .in-range .ensures) ∙ not-true _ (c .before .if1 .taken))
-
-length-fits-requires : tie.Need-length-fits-requires
-length-fits-requires c κs = search needs
-
-without-requires-2 : tie.Need-without-requires-2
-without-requires-2 c κs = search needs
-
-returns-2 : tie.Need-returns-2
-unfolding frameLeft
-returns-2 c = rw (c .without2 .ensures, sym (c .before .before .before .before .in-range .ensures) ∙ not-false _ (c .before .before .before .if1 .left), sym (c .before .before .length-fits .ensures) ∙ not-true _ (c .before .if2 .taken))
+abbrev buffers : tie.Start → Lent
+buffers c = lending (now (c .args .memory)) (now (c .args .plan)) (now (c .args .replies)) (now (c .args .deliveries))
 
 enough-requires : tie.Need-enough-requires
 enough-requires c κs = search needs
 
-without-requires-3 : tie.Need-without-requires-3
-without-requires-3 c κs = search needs
+open-requires : tie.Need-open-requires
+open-requires c κs = search needs
 
-returns-3 : tie.Need-returns-3
+enum-known-answer : tie.Need-enum-known-answer
+enum-known-answer c = search needs
+
+without-requires : tie.Need-without-requires
+without-requires c κs = search needs
+
+enum-known-answer-2 : tie.Need-enum-known-answer-2
+enum-known-answer-2 c = search needs
+
+unread-time-requires : tie.Need-unread-time-requires
+unread-time-requires c κs = search needs
+
+without-requires-2 : tie.Need-without-requires-2
+without-requires-2 c κs = search needs
+
+enum-known-h : tie.Need-enum-known-h
+enum-known-h c = search needs
+
+handle-requires : tie.Need-handle-requires
+handle-requires c κs =
+    let o = opened (c .before .before .before .before .before .before .before .before .before .before .before .before .before .before .args .s) (now (c .before .before .before .before .before .before .before .before .before .before .before .before .before .before .args .frame)) (buffersFit (arrived (c .before .before .before .before .before .before .before .before .before .before .before .before .before .before)) (buffers (c .before .before .before .before .before .before .before .before .before .before .before .before .before .before))) (c .before .before .before .before .before .h .given .0 .0) (ap (opening (c .before .before .before .before .before .before .before .before .before .before .before .before .before .before .args .s) (now (c .before .before .before .before .before .before .before .before .before .before .before .before .before .before .args .frame))) (sym (c .before .before .before .before .before .before .before .before .enough .ensures)) ∙ sym (c .before .before .before .before .before .before .before .«open» .ensures) ∙ c .before .before .before .before .before .h .given .1) in
+    (o .state, o .fits, o .buffers)
+
+returns : tie.Need-returns
 unfolding frameLeft
-returns-3 c = rw (c .without3 .ensures, sym (c .before .before .before .before .before .before .in-range .ensures) ∙ not-false _ (c .before .before .before .before .before .if1 .left), sym (c .before .before .before .before .length-fits .ensures) ∙ not-false _ (c .before .before .before .if2 .left), sym (c .before .before .enough .ensures) ∙ not-true _ (c .before .if3 .taken))
+returns c = rw (sym (c .before .before .before .before .before .enough .ensures), sym (c .before .before .before .before .«open» .ensures), c .before .before .answer .given .1, c .without .ensures)
 
-by-hlend-requires : tie.Need-by-hlend-requires
-by-hlend-requires c κs = (sym (c .before .before .before .before .before .before .before .before .before .in-range .ensures) ∙ not-false _ (c .before .before .before .before .before .before .before .before .if1 .left), sym (c .before .before .before .before .before .enough .ensures) ∙ not-false _ (c .before .before .before .before .if3 .left))
+returns-2 : tie.Need-returns-2
+unfolding frameLeft
+returns-2 c = rw (sym (c .before .before .before .before .before .before .enough .ensures), sym (c .before .before .before .before .before .«open» .ensures), c .before .before .before .answer2 .given .1, c .without2 .ensures, c .before .unread-time .ensures)
 
 same-length : tie.Need-same-length
 same-length c = search needs
@@ -52,26 +65,27 @@ same-length-3 c = search needs
 same-length-4 : tie.Need-same-length-4
 same-length-4 c = search needs
 
-returns-4 : tie.Need-returns-4
+returns-3 : tie.Need-returns-3
 unfolding frameLeft
-returns-4 c = rw (sym (c .before .before .before .before .before .before .before .before .before .before .before .before .before .before .before .before .before .before .in-range .ensures) ∙ not-false _ (c .before .before .before .before .before .before .before .before .before .before .before .before .before .before .before .before .before .if1 .left), sym (c .before .before .before .before .before .before .before .before .before .before .before .before .before .before .before .before .length-fits .ensures) ∙ not-false _ (c .before .before .before .before .before .before .before .before .before .before .before .before .before .before .before .if2 .left), sym (c .before .before .before .before .before .before .before .before .before .before .before .before .before .before .enough .ensures) ∙ not-false _ (c .before .before .before .before .before .before .before .before .before .before .before .before .before .if3 .left)) (c .before .before .before .before .before .before .before .before .by-hlend .ensures)
+returns-3 c = rw (sym (c .before .before .before .before .before .before .before .before .before .before .before .before .before .before .before .before .before .enough .ensures), sym (c .before .before .before .before .before .before .before .before .before .before .before .before .before .before .before .before .«open» .ensures), c .before .before .before .before .before .before .before .before .before .before .before .before .before .before .h .given .1) (c .before .before .before .before .before .before .before .before .handle .ensures)
 
 pub frame-spec : {M : Type 1} → statement M
 frame-spec =
     tie.close
     (tie.spec
-    in-range-requires
-    without-requires
-    returns
-    length-fits-requires
-    without-requires-2
-    returns-2
     enough-requires
-    without-requires-3
-    returns-3
-    by-hlend-requires
+    open-requires
+    enum-known-answer
+    without-requires
+    enum-known-answer-2
+    unread-time-requires
+    without-requires-2
+    enum-known-h
+    handle-requires
+    returns
+    returns-2
     same-length
     same-length-2
     same-length-3
     same-length-4
-    returns-4)
+    returns-3)

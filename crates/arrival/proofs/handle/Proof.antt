@@ -1,26 +1,23 @@
 -- `arrival::handle` meets its contract.
 -- Assumes nothing.
-use mathlib.Core.Path.{_≡_, _∙_, sym, ap}
-use Prim.Native.Nat.{ℕ, _-_}
-use mathlib.Core.List.{List}
+use Prim.Native.Nat.{_-_}
 use native.Mathlib.Omega.{arith}
 use denote.Ref.{now}
-use lib.ListN.{length, take, drop, length-take, length-drop}
-use Rattle.bwmap.specs.Plan.{counted, written}
-use Rattle.series.specs.Series.{plannedOf}
-use Rattle.arrival.specs.Lengths.{Lent}
-use Rattle.arrival.specs.Partitions.{headerEnd}
-use Rattle.arrival.specs.Frame.{ownOf, walkedFrom}
-use Rattle.arrival.proofs.Laws.{Room, room, map-part, messages-part, payload-part, from-stages}
+use lib.ListN.{length, drop, length-take, length-drop}
+use Rattle.arrival.specs.Given.{Arrival, Lent, arriving, lending}
+use Rattle.arrival.proofs.Laws.{Room, room, from-ends}
 use borrow.Author.Needs.{needs}
 use Rattle.arrival.proofs.handle.Statement.{statement}
 use Rattle.arrival.proofs.handle.Tie as tie
 
-abbrev buffers : tie.Start → Lent
-buffers c = record { memory = now (c .args .memory); plan = now (c .args .plan); replies = now (c .args .replies); deliveries = now (c .args .deliveries) }
+abbrev arrived : tie.Start → Arrival
+arrived c = arriving (now (c .args .frame)) (c .args .random-delay)
 
-fitting : (c : tie.Start) → Room (length (now (c .args .frame))) (buffers c)
-fitting c = room (length (now (c .args .frame))) (buffers c) (c .pre .2)
+abbrev buffers : tie.Start → Lent
+buffers c = lending (now (c .args .memory)) (now (c .args .plan)) (now (c .args .replies)) (now (c .args .deliveries))
+
+fitting : (c : tie.Start) → Room (arrived c) (buffers c)
+fitting c = room (arrived c) (buffers c) (c .pre .2)
 
 map-end-requires : tie.Need-map-end-requires
 map-end-requires c κs = search needs
@@ -100,19 +97,10 @@ same-length-4 c = search needs
 returns : tie.Need-returns
 returns c =
     let a = c .before .before .before .before .before .before .before .before .before .before .before .before .before .before .before .before .before .before .before .before .before .before .before .before .before .before .before .before .before .before .before .before .args in
-    let f = now (a .frame) in
-    let m = c .before .before .before .before .before .before .before .before .before .before .before .before .before .before .before .before .before .before .before .before .before .before .before .before .before .before .map-end .result in
-    let e = c .before .before .before .before .before .before .before .before .before .before .before .before .before .before .before .before .before .before .before .before .before .before .before .before .before .header-end .result in
-    let map = map-part (a .h) f m (c .before .before .before .before .before .before .before .before .before .before .before .before .before .before .before .before .before .before .before .before .before .before .before .before .before .before .map-end .ensures) in
-    let rest = payload-part (a .h) f e (c .before .before .before .before .before .before .before .before .before .before .before .before .before .before .before .before .before .before .before .before .before .before .before .before .before .header-end .ensures) in
-    let asked = messages-part (a .h) f m e (c .before .before .before .before .before .before .before .before .before .before .before .before .before .before .before .before .before .before .before .before .before .before .before .before .before .before .map-end .ensures) (c .before .before .before .before .before .before .before .before .before .before .before .before .before .before .before .before .before .before .before .before .before .before .before .before .before .header-end .ensures) in
-    from-stages (a .s) (a .h) f (a .delay) (buffers (c .before .before .before .before .before .before .before .before .before .before .before .before .before .before .before .before .before .before .before .before .before .before .before .before .before .before .before .before .before .before .before .before)) (c .before .before .before .before .before .before .before .before .before .before .before .before .before .before .before .before .before .before .before .before .before .before .plan-bursts .result) _ _ _ _ (c .before .before .before .before .before .before .before .before .before .before .before .before .before .before .before .before .before .before .reply-all .result) (c .before .before .before .before .before .before .before .before .before .before .before .before .receive-payload .result) (c .before .frame-end .result) (c .answer-to .result) (fitting (c .before .before .before .before .before .before .before .before .before .before .before .before .before .before .before .before .before .before .before .before .before .before .before .before .before .before .before .before .before .before .before .before))
-    (c .before .before .before .before .before .before .before .before .before .before .before .before .before .before .before .before .before .before .before .before .before .before .plan-bursts .ensures .0 ∙ ap (λ (x : List ℕ). counted (a .s .carried) (plannedOf (ownOf (a .s)) x (a .s .carried))) map)
-    (c .before .before .before .before .before .before .before .before .before .before .before .before .before .before .before .before .before .before .before .before .before .before .plan-bursts .ensures .1 ∙ ap (λ (x : List ℕ). written (plannedOf (ownOf (a .s)) x (a .s .carried)) (now (a .plan))) map)
-    (c .before .before .before .before .before .before .before .before .before .before .before .before .before .before .before .before .before .before .reply-all .ensures)
-    (c .before .before .before .before .before .before .before .before .before .before .before .before .receive-payload .ensures ∙ ap (λ (k : ℕ). walkedFrom (a .s) k (take (length f - e) (drop e f)) (now (a .memory)) (now (a .deliveries))) (c .before .before .before .before .before .before .before .before .before .before .before .before .before .before .before .before .before .before .before .before .before .before .before .before .before .header-end .ensures) ∙ ap (λ (x : List ℕ). walkedFrom (a .s) (headerEnd (a .h)) x (now (a .memory)) (now (a .deliveries))) rest)
-    (c .before .frame-end .ensures ∙ rw (c .before .before .before .receive-all .ensures, c .before .before .is-ranging .ensures, c .before .before .before .before .before .with-carried .ensures, c .before .before .before .before .before .before .with-ports .ensures, asked))
-    (c .answer-to .ensures)
+    from-ends (a .s) (a .h) (arrived (c .before .before .before .before .before .before .before .before .before .before .before .before .before .before .before .before .before .before .before .before .before .before .before .before .before .before .before .before .before .before .before .before)) (buffers (c .before .before .before .before .before .before .before .before .before .before .before .before .before .before .before .before .before .before .before .before .before .before .before .before .before .before .before .before .before .before .before .before))
+    (c .before .before .before .before .before .before .before .before .before .before .before .before .before .before .before .before .before .before .before .before .before .before .before .before .before .before .map-end .result) (c .before .before .before .before .before .before .before .before .before .before .before .before .before .before .before .before .before .before .before .before .before .before .before .before .before .header-end .result) (c .before .before .before .before .before .before .before .before .before .before .before .before .before .before .before .before .before .before .before .before .before .before .before .before .before .before .map-end .ensures) (c .before .before .before .before .before .before .before .before .before .before .before .before .before .before .before .before .before .before .before .before .before .before .before .before .before .header-end .ensures)
+    (c .before .before .before .before .before .before .before .before .before .before .before .before .before .before .before .before .before .before .before .before .before .before .plan-bursts .result) _ _ _ _ (c .before .before .before .before .before .before .before .before .before .before .before .before .before .before .before .before .before .before .reply-all .result) (c .before .before .before .before .before .before .before .before .before .before .before .before .receive-payload .result) (c .before .before .before .before .before .before .with-ports .result) (c .before .before .before .before .before .with-carried .result) (c .before .before .before .receive-all .result) (c .before .before .is-ranging .result) (c .before .frame-end .result) (c .answer-to .result) (fitting (c .before .before .before .before .before .before .before .before .before .before .before .before .before .before .before .before .before .before .before .before .before .before .before .before .before .before .before .before .before .before .before .before))
+    (c .before .before .before .before .before .before .before .before .before .before .before .before .before .before .before .before .before .before .before .before .before .before .plan-bursts .ensures .0) (c .before .before .before .before .before .before .before .before .before .before .before .before .before .before .before .before .before .before .before .before .before .before .plan-bursts .ensures .1) (c .before .before .before .before .before .before .before .before .before .before .before .before .before .before .before .before .before .before .reply-all .ensures) (c .before .before .before .before .before .before .before .before .before .before .before .before .receive-payload .ensures) (c .before .before .before .before .before .before .with-ports .ensures) (c .before .before .before .before .before .with-carried .ensures) (c .before .before .before .receive-all .ensures) (c .before .before .is-ranging .ensures) (c .before .frame-end .ensures) (c .answer-to .ensures)
 
 pub handle-spec : {M : Type 1} → statement M
 handle-spec =
