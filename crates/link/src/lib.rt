@@ -19,6 +19,9 @@ pub const ADDED_ALLOCS: usize = 16;
 
 pub const MOST_OWED: usize = 8;
 
+// Octets of a key, 15.6.2.
+pub const KEY_OCTETS: usize = 16;
+
 // Completion codes of the Acknowledgement, 11.3.4.4: those that a station of ours sends.
 pub enum Completion {
     Ok,
