@@ -10,7 +10,7 @@ use lib.ListN.{length, take, drop}
 use Rattle.bch.specs.Code.{TrueWord, distance}
 use Rattle.framing.specs.Octets.{value, octets}
 use Rattle.framing.specs.Reads.{fields}
-use Rattle.framing.specs.declared.octets.Written.the-variants.{Done}
+use Rattle.framing.specs.declared.words.Written.the-variants.{Done}
 use Rattle.framing.proofs.Numbers.{Bytes}
 use Rattle.framing.proofs.RoundTrips.{flipped, clean, again, stands, wrote-done, same-fields}
 use Rattle.xgtc.specs.Layouts.{hlendOf, hlendFits, hlendWord, allocationOf, allocationFits, allocationWord}

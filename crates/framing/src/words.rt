@@ -1,10 +1,10 @@
-// Numbers as octets of a slice, the most significant first.
+// Protected words as octets of a slice, the most significant first.
 ghost use mathlib.Core.Path.{_≡_};
 ghost use mathlib.Core.Bool.{cond};
 ghost use Prim.Native.Nat.{_%_, _^_, _<_, _≤_};
 ghost use lib.Dec.{leb};
 ghost use lib.ListN.{length, take};
-ghost use Rattle.framing.specs.Octets.{value, octets};
+ghost use Rattle.octets.specs.Octets.{value, octets};
 ghost use Rattle.framing.specs.Layouts.{bit};
 ghost use Rattle.hec.specs.Writes.{protected};
 ghost use Rattle.framing.specs.Writes.{put, wrote};
@@ -58,14 +58,15 @@ pub(crate) fn put64(target: &mut [u8], word: u64)
     requires { ⌜ 8 ≤ length (now target) ⌝ }
     ensures { λ _. ⌜ now (target .exit) ≡ put (now (target .entry)) (octets 8 word) ⌝ }
 {
-    target[0] = (word / 0x100_0000_0000_0000 % 256) as u8;
-    target[1] = (word / 0x1_0000_0000_0000 % 256) as u8;
-    target[2] = (word / 0x100_0000_0000 % 256) as u8;
-    target[3] = (word / 0x1_0000_0000 % 256) as u8;
-    target[4] = (word / 0x100_0000 % 256) as u8;
-    target[5] = (word / 0x1_0000 % 256) as u8;
-    target[6] = (word / 0x100 % 256) as u8;
-    target[7] = (word / 1 % 256) as u8;
+    let o = octets::split64(word);
+    target[0] = o[0];
+    target[1] = o[1];
+    target[2] = o[2];
+    target[3] = o[3];
+    target[4] = o[4];
+    target[5] = o[5];
+    target[6] = o[6];
+    target[7] = o[7];
 }
 
 // The protected word of the data bits at the start of a target, where they fit their fields and the target has room.

@@ -1,11 +1,11 @@
--- `framing::octets::word_ahead` meets its contract.
+-- `framing::words::word_ahead` meets its contract.
 -- Assumes nothing.
 use denote.Ref.{now}
 use borrow.Author.Tests.{le-leb, lt-leb}
 use lib.ListN.{length}
 use borrow.Author.Needs.{needs}
-use Rattle.framing.proofs.octets.word_ahead.Statement.{statement}
-use Rattle.framing.proofs.octets.word_ahead.Tie as tie
+use Rattle.framing.proofs.words.word_ahead.Statement.{statement}
+use Rattle.framing.proofs.words.word_ahead.Tie as tie
 
 word64-requires : tie.Need-word64-requires
 word64-requires c κs = search needs

@@ -1,11 +1,11 @@
--- `framing::octets::word64` meets its contract, an octet after the other.
+-- `framing::words::word64` meets its contract, an octet after the other.
 -- Assumes nothing.
 use denote.Ref.{now}
 use native.Mathlib.Omega.{arith}
 use Rattle.framing.proofs.Numbers.{value-step}
 use borrow.Author.Needs.{needs}
-use Rattle.framing.proofs.octets.word64.Statement.{statement}
-use Rattle.framing.proofs.octets.word64.Tie as tie
+use Rattle.framing.proofs.words.word64.Statement.{statement}
+use Rattle.framing.proofs.words.word64.Tie as tie
 
 shared-slice-read-wide64 : tie.Need-shared-slice-read-wide64
 shared-slice-read-wide64 c = search needs

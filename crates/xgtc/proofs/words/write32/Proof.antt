@@ -1,4 +1,4 @@
--- `xgtc::octets::write32` meets its contract.
+-- `xgtc::words::write32` meets its contract.
 -- Assumes nothing.
 use denote.Ref.{now}
 use mathlib.Core.Path.{sym, ap, _∙_}
@@ -13,8 +13,8 @@ use Rattle.framing.specs.Octets.{octets}
 use Rattle.framing.specs.Writes.{put}
 use Rattle.framing.proofs.Steps.{unfit, no-room, done}
 use borrow.Author.Needs.{needs}
-use Rattle.xgtc.proofs.octets.write32.Statement.{statement}
-use Rattle.xgtc.proofs.octets.write32.Tie as tie
+use Rattle.xgtc.proofs.words.write32.Statement.{statement}
+use Rattle.xgtc.proofs.words.write32.Tie as tie
 
 returns : tie.Need-returns
 returns c =

@@ -1,4 +1,4 @@
--- `framing::octets::write64` meets its contract.
+-- `framing::words::write64` meets its contract.
 -- Assumes nothing.
 use denote.Ref.{now}
 use mathlib.Core.Path.{sym, ap, _∙_}
@@ -13,8 +13,8 @@ use Rattle.framing.specs.Octets.{octets}
 use Rattle.framing.specs.Writes.{put}
 use Rattle.framing.proofs.Steps.{unfit, no-room, done}
 use borrow.Author.Needs.{needs}
-use Rattle.framing.proofs.octets.write64.Statement.{statement}
-use Rattle.framing.proofs.octets.write64.Tie as tie
+use Rattle.framing.proofs.words.write64.Statement.{statement}
+use Rattle.framing.proofs.words.write64.Tie as tie
 
 returns : tie.Need-returns
 returns c =
