@@ -24,18 +24,19 @@ use Rattle.link.specs.declared.Allocs.{Allocs}
 use Rattle.link.specs.declared.Queue.{Queue}
 use Rattle.link.specs.declared.Response.{Response}
 use Rattle.link.specs.declared.Response.the-variants.{Registration, Acknowledgement}
-use Rattle.link.specs.declared.Completion.the-variants.{Ok, UnknownMessageType, ParameterError, ProcessingError}
+use Rattle.ploam.specs.declared.Completion.the-variants.{Ok, UnknownMessageType, ParameterError, ProcessingError}
 use Rattle.station.specs.States.{stateNumber, o4, o5}
 use Rattle.link.specs.Link.{allocPlace}
 use Rattle.link.specs.Limits.{addedAllocs}
 use Rattle.effects.specs.declared.Change.{Change}
 use Rattle.effects.specs.declared.Change.the-variants.{Keep, Range, AddAlloc, RemoveAlloc}
 use Rattle.effects.specs.declared.Effect.{Effect}
-use Rattle.effects.specs.declared.ranging.Target.{Target}
-use Rattle.effects.specs.declared.ranging.Target.the-variants.{To, Outside}
+use Rattle.decisions.specs.declared.ranging.Target.{Target}
+use Rattle.decisions.specs.declared.ranging.Target.the-variants.{To, Outside}
 use Rattle.effects.specs.Effects.{ignored, owes, isIgnored}
-use Rattle.effects.specs.Ranging.{absolute, moved, answered, rangingTime}
-use Rattle.decisions.specs.Decisions.{found, assignOnuId, allocChange, assignAllocId, requestRegistration, disable, unknownType}
+use Rattle.decisions.specs.Ranging.{absolute, moved, answered, rangingTime}
+use Rattle.ids.specs.Places.{isHeld}
+use Rattle.decisions.specs.Decisions.{assignOnuId, allocChange, assignAllocId, requestRegistration, disable, unknownType}
 use Rattle.decisions.specs.Decisions.{byContent, isBroadcast, isOurs, effectOf, fitting, decision}
 use Rattle.decisions.specs.Acts.{act}
 use Rattle.decisions.proofs.Acting.{act-ignored}
@@ -80,10 +81,10 @@ module _ (q : Queue) (h : fullOf q ≡ true) where
 
   alloc-refused : (allocs : Allocs) (seq : ℕ) (id : AllocId) (change : AllocChange) → Refused q (allocChange allocs seq id change)
   alloc-refused allocs seq id Assign =
-      either q (found (allocPlace allocs id)) _ _ (no-room Keep (Acknowledgement Ok) seq)
+      either q (isHeld (allocPlace allocs id)) _ _ (no-room Keep (Acknowledgement Ok) seq)
       (either q (leb addedAllocs (allocs .count)) _ _ (no-room Keep (Acknowledgement ProcessingError) seq) (no-room (AddAlloc id) (Acknowledgement Ok) seq))
   alloc-refused allocs seq id Deallocate =
-      either q (found (allocPlace allocs id)) _ _ (no-room (RemoveAlloc id) (Acknowledgement Ok) seq) (no-room Keep (Acknowledgement ParameterError) seq)
+      either q (isHeld (allocPlace allocs id)) _ _ (no-room (RemoveAlloc id) (Acknowledgement Ok) seq) (no-room Keep (Acknowledgement ParameterError) seq)
   alloc-refused allocs seq id OtherChange = no-room Keep (Acknowledgement ParameterError) seq
 
   directed-refused : (s : Station) (seq : ℕ) (c : Content) → deactivates c ≡ false → Refused q (byContent s false seq c)

@@ -1,5 +1,4 @@
 pub mod Receiving
-pub mod Replying
 pub mod Asking
 pub mod Inert
 pub mod Checking

@@ -13,7 +13,6 @@ ghost use Rattle.activation.specs.Checking.{verdictAt, Known, Askable};
 
 mod checking;
 mod inert;
-pub mod replying;
 
 use cmac::Prepared;
 use effects::Change;

@@ -4,6 +4,7 @@ mod records;
 mod search;
 
 use entries::Own;
+use entries::STRUCTURE_OCTETS;
 ghost use Prim.Native.Nat.{_+_, _*_, _≤_, _<_};
 ghost use mathlib.Core.Path.{_≡_};
 ghost use lib.ListN.{length};
@@ -13,12 +14,13 @@ ghost use Rattle.series.specs.Series.{entryCount, carriedOver};
 ghost use Rattle.bwmap.specs.Turns.{outcome, toCome, starting, Small};
 ghost use Rattle.bwmap.specs.Plan.{MapLeaves};
 use search::Next;
+use series::Around;
+use station::limits::UPSTREAM_WORDS;
 
 // Numbers that a plan must have room for.
-pub const PLAN_NUMBERS: usize = 256;
-
-// Words of an upstream frame.
-const UPSTREAM_WORDS: usize = 9720;
+pub const PLAN_NUMBERS: usize = series::BURSTS_A_FRAME
+    * series::ENTRIES_A_BURST
+    * records::NUMBERS_A_RECORD;
 
 // What is planned of a map.
 pub struct Plan {
@@ -42,9 +44,8 @@ pub enum Answer {
 pub struct Walk {
     pub at: usize,
     pub records: usize,
-    pub bursts: usize,
     pub messages: usize,
-    pub end: usize,
+    pub around: Around,
 }
 
 fn carried_over(end: usize) -> u16
@@ -62,8 +63,8 @@ fn turn(map: &[u8], own: Own, w: Walk, plan: &mut [u16]) -> Walk
     requires { ⌜ (w .at < entryCount (now map)) × (planNumbers ≤ length (now plan)) × Small w ⌝ }
     ensures { λ r. ⌜ Small r × (w .at < r .at) × (r .at ≤ entryCount (now (map .entry))) × (toCome own (now (map .entry)) (now (plan .exit)) r ≡ toCome own (now (map .entry)) (now (plan .entry)) w) ⌝ }
 {
-    let last = w.end;
-    match search::next_planned(map, own, w.at, last, w.bursts) {
+    let before = w.around;
+    match search::next_planned(map, own, w.at, before) {
         Next::Until(next, s) => {
             let at = next - s.entries;
             let more = s.entries - 1;
@@ -73,17 +74,18 @@ fn turn(map: &[u8], own: Own, w: Walk, plan: &mut [u16]) -> Walk
             Walk {
                 at: next,
                 records: w.records + (more + 1),
-                bursts: w.bursts + 1,
                 messages: w.messages + records::mark(h.ploamu, 1),
-                end: s.start + s.words,
+                around: Around {
+                    end: s.start + s.words,
+                    bursts: before.bursts + 1,
+                },
             }
         }
         Next::Nowhere => Walk {
-            at: map.len() / search::STRUCTURE_OCTETS,
+            at: map.len() / STRUCTURE_OCTETS,
             records: w.records,
-            bursts: w.bursts,
             messages: w.messages,
-            end: last,
+            around: before,
         },
     }
 }
@@ -96,13 +98,16 @@ fn walk_map(map: &[u8], own: Own, carried: u16, plan: &mut [u16]) -> Walk
     let mut w = Walk {
         at: 0,
         records: 0,
-        bursts: 0,
         messages: 0,
-        end: search::long(carried),
+        around: Around {
+            end: search::long(carried),
+            bursts: 0,
+        },
     };
-    let n = map.len() / search::STRUCTURE_OCTETS;
+    let n = map.len() / STRUCTURE_OCTETS;
     while w.at < n {
-        if series::BURSTS_A_FRAME <= w.bursts {
+        let before = w.around;
+        if series::BURSTS_A_FRAME <= before.bursts {
             return w;
         }
         w = turn(map, own, w, plan);
@@ -117,7 +122,8 @@ pub fn plan_map(map: &[u8], own: Own, carried: u16, plan: &mut [u16]) -> Answer
     if plan.len() < PLAN_NUMBERS {
         return Answer::PlanTooShort;
     }
-    if own.is_silent() {
+    let activation = own.activation;
+    if activation.is_silent() {
         let end = search::long(carried);
         return Answer::Planned(Plan {
             records: 0,
@@ -128,11 +134,12 @@ pub fn plan_map(map: &[u8], own: Own, carried: u16, plan: &mut [u16]) -> Answer
         });
     }
     let w = walk_map(map, own, carried, plan);
+    let last = w.around;
     Answer::Planned(Plan {
         records: w.records,
-        bursts: w.bursts,
+        bursts: last.bursts,
         messages: w.messages,
-        end: w.end,
-        carried: carried_over(w.end),
+        end: last.end,
+        carried: carried_over(last.end),
     })
 }

@@ -1,5 +1,5 @@
 // The records of a plan.
-use super::search;
+use entries::STRUCTURE_OCTETS;
 use ids::AllocId;
 use xgtc::allocation::Allocation;
 use xgtc::allocation::AllocationRead;
@@ -51,7 +51,7 @@ pub(crate) fn allocation_at(map: &[u8], i: usize) -> Allocation
     requires { ⌜ i < entryCount (now map) ⌝ }
     ensures { λ r. ⌜ r ≡ allocationAt (now (map .entry)) i ⌝ }
 {
-    let at = search::STRUCTURE_OCTETS * i;
+    let at = STRUCTURE_OCTETS * i;
     match entries::reading::read_entry(&map[at..]) {
         AllocationRead::Fields(a) => a,
         AllocationRead::Unreadable => no_allocation(),

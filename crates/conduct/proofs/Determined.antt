@@ -12,9 +12,9 @@ use Rattle.host.specs.Host.{AddLeaves, RemoveLeaves, KeyLeaves}
 use Rattle.effects.specs.declared.Effect.{Effect}
 use Rattle.effects.specs.Changes.{Applies}
 use Rattle.decisions.specs.Acts.{Decides}
-use Rattle.activation.specs.declared.replying.Reply.{Reply}
+use Rattle.replies.specs.declared.replying.Reply.{Reply}
 use Rattle.activation.specs.Receiving.{AllReceived}
-use Rattle.activation.specs.Replying.{Replies, Leaves}
+use Rattle.replies.specs.Replying.{Replies, Leaves}
 use Rattle.replies.specs.Replies.{Left, Replied}
 
 pub add-determined : (s : Station) (p : PortId) (a b : Outcome) → AddLeaves s p a → AddLeaves s p b → a ≡ b

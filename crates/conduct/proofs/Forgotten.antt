@@ -33,7 +33,7 @@ use Rattle.decisions.proofs.Acting.{order-of-tests}
 use Rattle.ploam.specs.Reading.{received}
 use Rattle.integrity.specs.Integrity.{genuine, installedKey}
 use Rattle.activation.specs.Receiving.{acting, receive, receiveAll}
-use Rattle.activation.specs.Replying.{afterIn, afterReply}
+use Rattle.replies.specs.Replying.{afterIn, afterReply}
 use Rattle.host.specs.Host.{done, answerToAdd, answerToRemove, answerToKey, afterAdd, afterRemove, afterKey}
 use Rattle.ranges.specs.Ranges.{inRange}
 use Rattle.ports.specs.Ports.{addPort, removePort}

@@ -20,7 +20,7 @@ use Rattle.ports.specs.Ports.{noPort, portPlace, vacancy, putPort, addPort, rem
 use Rattle.station.specs.Station.{withLink, withPorts}
 use Rattle.ids.proofs.Places.{place-below}
 use Rattle.ranges.specs.Ranges.{held, portsFit, partialsFit, inRange}
-use Rattle.decisions.specs.Decisions.{found}
+use Rattle.ids.specs.Places.{isHeld}
 use Rattle.host.specs.Host.{done, answerToAdd, answerToRemove, answerToKey, afterAdd, afterRemove, afterKey}
 use Rattle.host.specs.Host as host
 use Rattle.station.specs.declared.answers.Answer.the-variants.{Done, StateOutOfRange, PortOutOfRange, PortHeldOrNotHeld, SlotsTaken}
@@ -76,7 +76,7 @@ settled : (b : Bool) (was next : Station) → Sound was → (b ≡ true → Soun
 settled true was next f g = g refl
 settled false was next f g = f
 
-same-found : (p : Place) → host.found p ≡ found p
+same-found : (p : Place) → host.found p ≡ isHeld p
 same-found (At i) = refl
 same-found Nowhere = refl
 

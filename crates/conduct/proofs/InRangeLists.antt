@@ -25,7 +25,7 @@ use Rattle.link.specs.Link.{noAlloc, blank, heldAllocs, allocPlace, addAlloc, r
 use Rattle.station.specs.Station.{withLink}
 use Rattle.ids.proofs.Places.{place-held}
 use Rattle.ranges.specs.Ranges.{proper, allocsFit}
-use Rattle.decisions.specs.Decisions.{found}
+use Rattle.ids.specs.Places.{isHeld}
 use Rattle.ranges.proofs.Tests.{both, join}
 use Rattle.conduct.proofs.Lists.{found-some, proper-snoc, proper-without, closed-up}
 use Rattle.conduct.proofs.Slots.{eqb-comm}
@@ -95,7 +95,7 @@ module _ (a : Allocs) (long : length (a .ids) ≡ addedAllocs) (t : allocsFit a 
         (rw (add-one (a .count), take-suc-set (a .ids) (a .count) id k)
         (proper-snoc assignableAlloc sameAlloc same-alloc (heldAllocs a) id all-proper o n))
 
-    pub added : assignableAlloc id ≡ true → found (allocPlace a id) ≡ false → (allocsFit (addAlloc a id) ≡ true) × (length (addAlloc a id .ids) ≡ addedAllocs)
+    pub added : assignableAlloc id ≡ true → isHeld (allocPlace a id) ≡ false → (allocsFit (addAlloc a id) ≡ true) × (length (addAlloc a id .ids) ≡ addedAllocs)
     added o n = go (leb addedAllocs (a .count)) refl
       where
         go

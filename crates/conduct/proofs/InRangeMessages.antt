@@ -28,7 +28,7 @@ use Rattle.decisions.specs.Decisions.{decision}
 use Rattle.decisions.specs.Acts.{act}
 use Rattle.decisions.proofs.Acting.{order-of-tests}
 use Rattle.activation.specs.Receiving.{acting, receive, receiveAll}
-use Rattle.activation.specs.Replying.{afterIn, afterReply}
+use Rattle.replies.specs.Replying.{afterIn, afterReply}
 use Rattle.conduct.proofs.Valid.{ValidChange, Valid, decision-valid}
 use Rattle.conduct.proofs.Slots.{cleared}
 use Rattle.conduct.proofs.InRange.{Sound, enter-sound}

@@ -12,18 +12,18 @@ use Rattle.link.specs.Lists.{closeUp}
 use Rattle.ids.specs.declared.Place.{Place}
 use Rattle.ids.specs.declared.Place.the-variants.{At, Nowhere}
 use Rattle.ranges.specs.Ranges.{proper, every}
-use Rattle.decisions.specs.Decisions.{found}
+use Rattle.ids.specs.Places.{isHeld}
 use Rattle.ranges.proofs.Tests.{both, join, neither, nor, not-so, so-not}
 
--- ---- a place is found where one of them passes
+-- ---- a place is held where one of them passes
 
-pub found-some : {A : Type 0} (f : A → Bool) (i : ℕ) (l : List A) → found (placeFrom f i l) ≡ some f l
+pub found-some : {A : Type 0} (f : A → Bool) (i : ℕ) (l : List A) → isHeld (placeFrom f i l) ≡ some f l
 found-some f i [] = refl
 found-some f i (a ∷ l) = go (f a) (found-some f (i + 1) l)
   where
     go
-        : (b : Bool) → found (placeFrom f (i + 1) l) ≡ some f l
-        → found (cond b (At i) (placeFrom f (i + 1) l)) ≡ (b || some f l)
+        : (b : Bool) → isHeld (placeFrom f (i + 1) l) ≡ some f l
+        → isHeld (cond b (At i) (placeFrom f (i + 1) l)) ≡ (b || some f l)
     go true e = refl
     go false e = e
 

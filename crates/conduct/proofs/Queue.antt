@@ -16,7 +16,7 @@ use Rattle.link.specs.declared.Owed.{Owed}
 use Rattle.link.specs.declared.Queue.{Queue}
 use Rattle.link.specs.Limits.{mostOwed}
 use Rattle.link.specs.Link.{owedAnswers, owe, oldest, paid, blank}
-use Rattle.activation.specs.Replying.{answering, noMessage, inOperation}
+use Rattle.replies.specs.Replying.{answering, noMessage, inOperation}
 
 abbrev queue : List Owed → ℕ → Queue
 queue answers count = record { answers = answers; count = count }

@@ -11,7 +11,7 @@ use Rattle.station.specs.Station.{powerOn}
 use Rattle.ranges.specs.Ranges.{inRange}
 use Rattle.timing.specs.Timing.{frameEnd, lostTime, unreadTime}
 use Rattle.activation.specs.Receiving.{receiveAll}
-use Rattle.activation.specs.Replying.{afterReply}
+use Rattle.replies.specs.Replying.{afterReply}
 use Rattle.host.specs.Host.{afterAdd, afterRemove, afterKey}
 use Rattle.conduct.proofs.Forgotten.{Forgotten, power-on-forgotten, messages-forgotten, reply-forgotten, frame-end-forgotten, lost-forgotten, unread-forgotten, add-forgotten, remove-forgotten, key-forgotten}
 use Rattle.conduct.proofs.InRange.{Sound, sound-in-range, power-on-sound}

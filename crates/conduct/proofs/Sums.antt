@@ -12,10 +12,10 @@ use Rattle.station.specs.declared.Activation.the-variants.{Operation}
 use Rattle.station.specs.declared.Station.{Station}
 use Rattle.link.specs.declared.Owed.{Owed}
 use Rattle.link.specs.declared.Response.the-variants.{Acknowledgement}
-use Rattle.link.specs.declared.Completion.the-variants.{ParameterError}
+use Rattle.ploam.specs.declared.Completion.the-variants.{ParameterError}
 use Rattle.link.specs.Link.{withOwed, owe}
 use Rattle.station.specs.Station.{withLink}
-use Rattle.effects.specs.Ranging.{rangingTime}
+use Rattle.decisions.specs.Ranging.{rangingTime}
 use Rattle.decisions.specs.Decisions.{byContent}
 use Rattle.effects.specs.Changes.{applied}
 

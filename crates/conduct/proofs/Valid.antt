@@ -31,11 +31,12 @@ use Rattle.effects.specs.declared.Change.the-variants.{Keep, Identify, Range, D
 use Rattle.effects.specs.declared.Debt.{Debt}
 use Rattle.effects.specs.declared.Debt.the-variants.{Free, Owes}
 use Rattle.effects.specs.declared.Effect.{Effect}
-use Rattle.effects.specs.declared.ranging.Target.{Target}
-use Rattle.effects.specs.declared.ranging.Target.the-variants.{To, Outside}
+use Rattle.decisions.specs.declared.ranging.Target.{Target}
+use Rattle.decisions.specs.declared.ranging.Target.the-variants.{To, Outside}
 use Rattle.effects.specs.Effects.{ignored, does, owes, answers}
-use Rattle.effects.specs.Ranging.{absolute, moved, answered, unanswered, rangingTime}
-use Rattle.decisions.specs.Decisions.{sameSerial, found, assignOnuId, allocChange, assignAllocId, requestRegistration, deactivate, switchOff, switchOn, switched, disable, unknownType, byContent, isBroadcast, isOurs, effectOf, room, fitting, decision}
+use Rattle.decisions.specs.Ranging.{absolute, moved, answered, unanswered, rangingTime}
+use Rattle.decisions.specs.Decisions.{sameSerial, assignOnuId, allocChange, assignAllocId, requestRegistration, deactivate, switchOff, switchOn, switched, disable, unknownType, byContent, isBroadcast, isOurs, effectOf, room, fitting, decision}
+use Rattle.ids.specs.Places.{isHeld}
 
 -- ---- the statement
 
@@ -45,7 +46,7 @@ ValidChange s (Identify onu) = assignableOnu onu ≡ true
 ValidChange s (Range delay) = holdsIdentity (s .activation) ≡ true
 ValidChange s (Delay delay) = holdsIdentity (s .activation) ≡ true
 ValidChange s (AddAlloc id) =
-    (holdsIdentity (s .activation) ≡ true) × (assignableAlloc id ≡ true) × (found (allocPlace (s .link .allocs) id) ≡ false)
+    (holdsIdentity (s .activation) ≡ true) × (assignableAlloc id ≡ true) × (isHeld (allocPlace (s .link .allocs) id) ≡ false)
 ValidChange s (RemoveAlloc id) = holdsIdentity (s .activation) ≡ true
 ValidChange s (Enter a) = (holdsIdentity a ≡ false) × (timerFits a ≡ true)
 
@@ -131,10 +132,10 @@ module _ (s : Station) where
       : holdsIdentity (s .activation) ≡ true → (seq : ℕ) (id : AllocId) → assignableAlloc id ≡ true → (change : AllocChange)
       → Valid s (allocChange (s .link .allocs) seq id change)
   alloc-valid i seq id a Assign =
-      choose (Valid s) (found (allocPlace (s .link .allocs) id)) _ _ (λ h. (tt, (i, refl)))
+      choose (Valid s) (isHeld (allocPlace (s .link .allocs) id)) _ _ (λ h. (tt, (i, refl)))
       (λ h. choose (Valid s) (leb addedAllocs (s .link .allocs .count)) _ _ (λ k. (tt, (i, refl))) (λ k. ((i, a, h), (i, refl))))
   alloc-valid i seq id a Deallocate =
-      choose (Valid s) (found (allocPlace (s .link .allocs) id)) _ _ (λ h. (i, (i, refl))) (λ h. (tt, (i, refl)))
+      choose (Valid s) (isHeld (allocPlace (s .link .allocs) id)) _ _ (λ h. (i, (i, refl))) (λ h. (tt, (i, refl)))
   alloc-valid i seq id a OtherChange = (tt, (i, refl))
 
   assign-alloc

@@ -4,34 +4,35 @@ ghost use mathlib.Core.Path.{_≡_};
 ghost use mathlib.Core.Bool.{Bool};
 ghost use Prim.Native.Nat.{_+_, _*_};
 ghost use Rattle.ploam.specs.Reading.{serialAt};
-ghost use Rattle.decisions.specs.Decisions.{sameSerial, found, assignOnuId, allocChange, assignAllocId};
+ghost use Rattle.decisions.specs.Decisions.{sameSerial, assignOnuId, allocChange, assignAllocId};
 ghost use Rattle.decisions.specs.Decisions.{requestRegistration, deactivate, switchOff, switchOn, switched, disable};
 ghost use Rattle.decisions.specs.Decisions.{unknownType, byContent, fitting};
 ghost use Rattle.decisions.specs.Acts.{Decides};
+
+pub mod ranging;
+
 use effects::Change;
 use effects::Debt;
 use effects::Effect;
-use effects::O5;
-use effects::O7;
-use effects::O23;
 use effects::answers;
 use effects::does;
 use effects::ignored;
 use effects::owes;
-use effects::ranging;
 use ids::AllocId;
 use ids::OnuId;
-use ids::Place;
 use link::Allocs;
-use link::Completion;
 use link::Queue;
 use link::Response;
 use ploam::AllocChange;
+use ploam::Completion;
 use ploam::Content;
 use ploam::Message;
 use ploam::SerialNumber;
 use ploam::Switch;
 use station::Activation;
+use station::O5;
+use station::O7;
+use station::O23;
 use station::Station;
 
 fn join(a: u8, b: u8, c: u8, d: u8) -> u32
@@ -56,15 +57,6 @@ fn same_serial(a: SerialNumber, b: SerialNumber) -> bool
     a.vendor == b.vendor && a.vssn == b.vssn
 }
 
-fn is_found(place: Place) -> bool
-    ensures { λ r. ⌜ r ≡ found place ⌝ }
-{
-    match place {
-        Place::At(_) => true,
-        Place::Nowhere => false,
-    }
-}
-
 fn assign_onu_id(state: u8, broadcast: bool, own: bool, onu: OnuId) -> Effect
     ensures { λ r. ⌜ r ≡ assignOnuId state broadcast own onu ⌝ }
 {
@@ -86,7 +78,8 @@ fn assign_onu_id(state: u8, broadcast: bool, own: bool, onu: OnuId) -> Effect
 fn alloc_change(allocs: Allocs, seq: u8, id: AllocId, change: AllocChange) -> Effect
     ensures { λ r. ⌜ r ≡ allocChange allocs seq id change ⌝ }
 {
-    let held = is_found(allocs.place(id));
+    let place = allocs.place(id);
+    let held = place.is_held();
     match change {
         AllocChange::Assign => {
             if held {

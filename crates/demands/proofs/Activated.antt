@@ -30,7 +30,7 @@ use Rattle.station.specs.declared.Station.{Station}
 use Rattle.station.specs.declared.Activation.{Activation}
 use Rattle.station.specs.declared.Activation.the-variants.{Operation}
 use Rattle.link.specs.declared.Allocs.{Allocs}
-use Rattle.link.specs.declared.Completion.the-variants.{Ok}
+use Rattle.ploam.specs.declared.Completion.the-variants.{Ok}
 use Rattle.link.specs.declared.Owed.{Owed}
 use Rattle.link.specs.declared.Response.the-variants.{Acknowledgement}
 use Rattle.ports.specs.declared.Ports.{Ports}
@@ -39,7 +39,7 @@ use Rattle.ports.specs.Ports.{noPorts, clearManagement}
 use Rattle.timing.specs.Timing.{frameEnd}
 use Rattle.effects.specs.declared.Change.the-variants.{Range}
 use Rattle.effects.specs.Effects.{answers}
-use Rattle.effects.specs.Ranging.{rangingTime}
+use Rattle.decisions.specs.Ranging.{rangingTime}
 use Rattle.decisions.specs.Decisions.{assignOnuId, assignAllocId, isBroadcast, isOurs, effectOf}
 use Rattle.effects.specs.Changes.{identify, range, applied}
 use Rattle.decisions.specs.Acts.{act}

@@ -18,7 +18,7 @@ use Rattle.station.specs.declared.answers.Answer.{Answer}
 use Rattle.station.specs.declared.answers.Answer.the-variants.{Done, DelineationLost}
 use Rattle.station.specs.Limits.{upstreamWords}
 use Rattle.station.specs.States.{holdsIdentity}
-use Rattle.entries.specs.Standings.{silent}
+use Rattle.station.specs.States.{silent}
 use Rattle.series.specs.Limits.{ploamuWords}
 use Rattle.series.specs.Series.{Series, standings, seriesOf}
 use Rattle.bwmap.specs.Promises.{SeriesIn, Account}

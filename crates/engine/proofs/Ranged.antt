@@ -20,7 +20,7 @@ use Rattle.ranges.specs.Ranges.{inRange}
 use Rattle.timing.specs.Timing.{lostTime}
 use Rattle.host.specs.declared.Outcome as host
 use Rattle.activation.specs.Receiving.{receiveAll, messagesIn}
-use Rattle.activation.specs.Replying.{afterReply}
+use Rattle.replies.specs.Replying.{afterReply}
 use Rattle.replies.specs.Replies as replied
 use Rattle.replies.specs.Replies.{inPlace, repliesFrom}
 use Rattle.series.specs.Series.{Series, plannedOf, lastEnd, carriedOver}

@@ -25,9 +25,9 @@ use Rattle.station.specs.declared.Station.{Station}
 use Rattle.station.specs.declared.answers.Answer.the-variants.{StateOutOfRange, FrameLengthUnfit, BufferTooShort, HeaderTooLong}
 use Rattle.station.specs.Limits.{registrationOctets}
 use Rattle.ranges.specs.Ranges.{inRange}
-use Rattle.activation.specs.Replying.{replyOf, afterIn, afterReply}
-use Rattle.activation.specs.declared.replying.Reply.{Reply}
-use Rattle.activation.specs.declared.replying.Reply.the-variants.{Silent, Says}
+use Rattle.replies.specs.Replying.{replyOf, afterIn, afterReply}
+use Rattle.replies.specs.declared.replying.Reply.{Reply}
+use Rattle.replies.specs.declared.replying.Reply.the-variants.{Silent, Says}
 use Rattle.replies.specs.Replies.{keyOf, said, wrote, inPlace, repliesFrom}
 use Rattle.bwmap.specs.Plan.{messages}
 use Rattle.bwmap.proofs.Kept.{bursts-most}

@@ -14,7 +14,8 @@ use Rattle.entries.specs.declared.Verdict.{Verdict}
 use Rattle.entries.specs.declared.Verdict.the-variants.{Unreadable, StartTimeUnfit, DbruWithoutRoom, Foreign, Silent}
 use Rattle.entries.specs.declared.Standing.{Standing}
 use Rattle.entries.specs.declared.Standing.the-variants.{Apart, Head, More}
-use Rattle.entries.specs.Standings.{isPlanned, startUnfit, noRoom, continues, ours, silent, sorted, standing, readAsStanding, Mine}
+use Rattle.entries.specs.Standings.{isPlanned, startUnfit, noRoom, continues, ours, sorted, standing, readAsStanding, Mine}
+use Rattle.station.specs.States.{silent}
 
 -- the standing of an entry of ours, as a head or as one that continues
 abbrev pub standsAs : Bool → Allocation → Standing

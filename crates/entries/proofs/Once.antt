@@ -8,7 +8,8 @@ use Rattle.xgtc.specs.Reads.{readAllocation}
 use Rattle.entries.specs.declared.Own.{Own}
 use Rattle.entries.specs.declared.Verdict.{Verdict}
 use Rattle.entries.specs.declared.Standing.{Standing}
-use Rattle.entries.specs.Standings.{isPlanned, silent, standing}
+use Rattle.entries.specs.Standings.{isPlanned, standing}
+use Rattle.station.specs.States.{silent}
 
 pub standing-ahead-once : (own : Own) (s : List ℕ) (a b : Standing) → a ≡ standing own (readAllocation s) → b ≡ standing own (readAllocation s) → a ≡ b
 standing-ahead-once own s a b p q = p ∙ sym q

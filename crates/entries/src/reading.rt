@@ -1,5 +1,6 @@
 // An entry of a map that is walked: by octets, and with no test before the word is loaded, so that the compiler merges it into the
 // walk's loop. xgtc reads a structure by itself.
+use crate::STRUCTURE_OCTETS;
 use hec::Reading64;
 use xgtc::allocation::Allocation;
 use xgtc::allocation::AllocationRead;
@@ -23,7 +24,7 @@ pub fn read_entry(s: &[u8]) -> AllocationRead
     ensures { λ r. ⌜ foundAllocation r ≡ readAllocation (now (s .entry)) ⌝ }
 {
     let read = hec::read64_by_octets(framing::word_ahead(s));
-    if s.len() < 8 {
+    if s.len() < STRUCTURE_OCTETS {
         return AllocationRead::Short;
     }
     found(read)

@@ -10,9 +10,9 @@ use native.Mathlib.Omega.{arith}
 use lib.ListN.{length, getD, take, drop, set, length-append, length-drop, drop-of-length-le}
 use lib.Seq.{sets, sets-eq, take-all, drop-cons, drop-drop}
 use Rattle.framing.specs.Octets.{value, octets}
-use Rattle.link.specs.declared.Completion.{Completion}
-use Rattle.link.specs.declared.Completion.the-variants.{Ok, NoMessage, UnknownMessageType, ParameterError, ProcessingError}
-use Rattle.link.specs.Link.{completionCode}
+use Rattle.ploam.specs.declared.Completion.{Completion}
+use Rattle.ploam.specs.declared.Completion.the-variants.{Ok, NoMessage, UnknownMessageType, ParameterError, ProcessingError}
+use Rattle.ploam.specs.Completions.{completionCode}
 use Rattle.framing.specs.Writes.{put}
 use borrow.Rule.Slice.PartMut.{putMid}
 use Rattle.framing.proofs.Numbers.{value-step}

@@ -17,7 +17,7 @@ use Rattle.station.specs.declared.Activation.the-variants.{Initial, SerialNumbe
 use Rattle.station.specs.declared.Station.{Station}
 use Rattle.link.specs.declared.Response.{Response}
 use Rattle.link.specs.declared.Response.the-variants.{Registration, Acknowledgement}
-use Rattle.link.specs.declared.Completion.the-variants.{Ok, NoMessage, UnknownMessageType, ParameterError, ProcessingError}
+use Rattle.ploam.specs.declared.Completion.the-variants.{Ok, NoMessage, UnknownMessageType, ParameterError, ProcessingError}
 use Rattle.link.specs.declared.Owed.{Owed}
 use Rattle.link.specs.declared.Key.{Key}
 use Rattle.link.specs.declared.Allocs.{Allocs}
@@ -25,7 +25,7 @@ use Rattle.link.specs.declared.Queue.{Queue}
 use Rattle.link.specs.declared.Link.{Link}
 use Rattle.ports.specs.declared.Ports.{Ports}
 use Rattle.station.specs.States.{stateNumber}
-use Rattle.link.specs.Link.{completionCode}
+use Rattle.ploam.specs.Completions.{completionCode}
 use Rattle.station.specs.Station.{powerOn}
 use Rattle.layout.specs.declared.StateRead.{StateRead}
 use Rattle.layout.specs.declared.Standing.{Standing}

@@ -13,7 +13,8 @@ use Rattle.station.specs.declared.Station.{Station}
 use Rattle.station.specs.States.{holdsIdentity}
 use Rattle.entries.specs.declared.Own.{Own}
 use Rattle.entries.specs.Limits.{lastStart}
-use Rattle.entries.specs.Standings.{startUnfit, noRoom, continues, ours, silent, Mine}
+use Rattle.entries.specs.Standings.{startUnfit, noRoom, continues, ours, Mine}
+use Rattle.station.specs.States.{silent}
 use Rattle.ledger.specs.Events.{Event, stationOf}
 use Rattle.ledger.specs.Ledger.{ledger, InLedger}
 

@@ -2,6 +2,8 @@
 // crate `integrity`, and those that a station sends of `upstream`.
 pub mod reading;
 
+ghost use mathlib.Core.Path.{_≡_};
+ghost use Rattle.ploam.specs.Completions.{completionCode};
 use ids::AllocId;
 use ids::OnuId;
 
@@ -64,6 +66,29 @@ pub struct Message {
     pub address: OnuId,
     pub seq: u8,
     pub content: Content,
+}
+
+// The completion codes of Acknowledgement (11.3.4.4) that document 01 sends.
+pub enum Completion {
+    Ok,
+    NoMessage,
+    UnknownMessageType,
+    ParameterError,
+    ProcessingError,
+}
+
+impl Completion {
+    pub fn code(self) -> u8
+        ensures { λ r. ⌜ r ≡ completionCode self ⌝ }
+    {
+        match self {
+            Completion::Ok => 0,
+            Completion::NoMessage => 1,
+            Completion::UnknownMessageType => 3,
+            Completion::ParameterError => 4,
+            Completion::ProcessingError => 5,
+        }
+    }
 }
 
 // A slice under 48 octets is short.

@@ -14,11 +14,9 @@ use link::Allocs;
 use ports::SLOT_BYTES;
 use station::Activation;
 use station::Station;
+use station::limits::LAST_WORD;
 use station::limits::TO1;
 use station::limits::TO2;
-
-// The last word of an upstream frame.
-const LAST_WORD: u16 = 9719;
 
 // "ONU-ID at most 1,022 in O4, O5, O6, else 1,023"
 fn identity_fits(a: Activation, onu: OnuId) -> bool

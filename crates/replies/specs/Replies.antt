@@ -12,9 +12,9 @@ use Rattle.integrity.specs.Integrity.{defaultKey, installedKey}
 use Rattle.upstream.specs.Writing.{written}
 use Rattle.station.specs.declared.Station.{Station}
 use Rattle.link.specs.declared.Key.{Key}
-use Rattle.activation.specs.Replying.{replyOf, afterReply}
-use Rattle.activation.specs.declared.replying.Reply.{Reply}
-use Rattle.activation.specs.declared.replying.Reply.the-variants.{Silent, Says}
+use Rattle.replies.specs.Replying.{replyOf, afterReply}
+use Rattle.replies.specs.declared.replying.Reply.{Reply}
+use Rattle.replies.specs.declared.replying.Reply.the-variants.{Silent, Says}
 
 -- the key that signs: the installed one, or the default if none
 abbrev pub keyOf : Key → List ℕ

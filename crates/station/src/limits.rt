@@ -1,4 +1,9 @@
-// Numbers of the paper that more than one stage needs.
+// The numbers of the paper that more than one stage needs.
+
+// Words of an upstream frame, and the last of them.
+pub const UPSTREAM_WORDS: usize = 9720;
+
+pub const LAST_WORD: u16 = (UPSTREAM_WORDS - 1) as u16;
 
 // Frame times of TO1 (10 s) and of TO2 (100 ms).
 pub const TO1: u32 = 80000;

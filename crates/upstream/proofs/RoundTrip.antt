@@ -22,8 +22,8 @@ use Rattle.integrity.proofs.Keys.{octets-covered, default-octets}
 use Rattle.integrity.proofs.Signed.{mic-length, signed-right}
 use Rattle.upstream.specs.Upstream.{longestDelay, capped, upstreamAddress, upstreamType, upstreamSeqNo, upstreamContent, upstreamOctets, fitting, registrationId, heardAs, heard, asSent, Numbers}
 use Rattle.upstream.specs.Writing.{Outcome, laid, written, writtenBy}
-use Rattle.upstream.specs.declared.Completion.{Completion}
-use Rattle.upstream.specs.declared.Completion.the-variants.{Ok, NoMessage, Busy, UnknownType, ParameterError, ProcessingError}
+use Rattle.ploam.specs.declared.Completion.{Completion}
+use Rattle.ploam.specs.declared.Completion.the-variants.{Ok, NoMessage, UnknownMessageType, ParameterError, ProcessingError}
 use Rattle.upstream.specs.declared.UpstreamMessage.{UpstreamMessage}
 use Rattle.upstream.specs.declared.UpstreamMessage.the-variants.{SerialNumberOnu, Registration, Acknowledgement}
 use Rattle.upstream.specs.declared.Heard.{Heard}
@@ -87,9 +87,8 @@ said-again (Registration onu seq) id tail n = ap (λ (o : OnuId). Said (Registra
 said-again (Acknowledgement onu seq Ok) id tail n = ap (λ (o : OnuId). Said (Acknowledgement o seq Ok)) (sent-onu onu n)
 said-again (Acknowledgement onu seq NoMessage) id tail n =
     ap (λ (o : OnuId). Said (Acknowledgement o seq NoMessage)) (sent-onu onu n)
-said-again (Acknowledgement onu seq Busy) id tail n = ap (λ (o : OnuId). Said (Acknowledgement o seq Busy)) (sent-onu onu n)
-said-again (Acknowledgement onu seq UnknownType) id tail n =
-    ap (λ (o : OnuId). Said (Acknowledgement o seq UnknownType)) (sent-onu onu n)
+said-again (Acknowledgement onu seq UnknownMessageType) id tail n =
+    ap (λ (o : OnuId). Said (Acknowledgement o seq UnknownMessageType)) (sent-onu onu n)
 said-again (Acknowledgement onu seq ParameterError) id tail n =
     ap (λ (o : OnuId). Said (Acknowledgement o seq ParameterError)) (sent-onu onu n)
 said-again (Acknowledgement onu seq ProcessingError) id tail n =

@@ -11,8 +11,8 @@ use Rattle.ploam.specs.Layout.{messageOctets, octet, number32, addressOf, typeO
 use Rattle.ploam.specs.Layout.{serialNumberOnu, registration, acknowledgement}
 use Rattle.ploam.specs.Reading.{serialFrom}
 use Rattle.ploam.specs.declared.SerialNumber.{SerialNumber}
-use Rattle.upstream.specs.declared.Completion.{Completion}
-use Rattle.upstream.specs.declared.Completion.the-variants.{Ok, NoMessage, Busy, UnknownType, ParameterError, ProcessingError}
+use Rattle.ploam.specs.declared.Completion.the-variants.{Ok, NoMessage, UnknownMessageType, ParameterError, ProcessingError}
+use Rattle.ploam.specs.Completions.{completionCode}
 use Rattle.upstream.specs.declared.Heard.{Heard}
 use Rattle.upstream.specs.declared.Heard.the-variants.{Said, Other, Unheard}
 use Rattle.upstream.specs.declared.UpstreamMessage.{UpstreamMessage}
@@ -24,15 +24,6 @@ longestDelay = 119439
 
 abbrev pub capped : ℕ → ℕ
 capped delay = cond (ltb longestDelay delay) longestDelay delay
-
--- 11.3.4.4: the completion codes
-abbrev pub completionCode : Completion → ℕ
-completionCode Ok = 0
-completionCode NoMessage = 1
-completionCode Busy = 2
-completionCode UnknownType = 3
-completionCode ParameterError = 4
-completionCode ProcessingError = 5
 
 abbrev pub octets16 : ℕ → List ℕ
 octets16 n = n / 256 % 256 ∷ n % 256 ∷ []
@@ -84,10 +75,9 @@ abbrev pub acknowledged : OnuId → ℕ → ℕ → Heard
 acknowledged onu seq code =
     cond (eqb code 0) (Said (Acknowledgement onu seq Ok))
     (cond (eqb code 1) (Said (Acknowledgement onu seq NoMessage))
-    (cond (eqb code 2) (Said (Acknowledgement onu seq Busy))
-    (cond (eqb code 3) (Said (Acknowledgement onu seq UnknownType))
+    (cond (eqb code 3) (Said (Acknowledgement onu seq UnknownMessageType))
     (cond (eqb code 4) (Said (Acknowledgement onu seq ParameterError))
-    (cond (eqb code 5) (Said (Acknowledgement onu seq ProcessingError)) Other)))))
+    (cond (eqb code 5) (Said (Acknowledgement onu seq ProcessingError)) Other))))
 
 unfoldable pub heardAs : ℕ → List ℕ → Heard
 heardAs type m =

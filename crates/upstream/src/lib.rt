@@ -4,17 +4,8 @@ pub mod reading;
 pub mod writing;
 
 use ids::OnuId;
+use ploam::Completion;
 use ploam::SerialNumber;
-
-// The completion codes of Acknowledgement (11.3.4.4).
-pub enum Completion {
-    Ok,
-    NoMessage,
-    Busy,
-    UnknownType,
-    ParameterError,
-    ProcessingError,
-}
 
 // What a station says: Serial_Number_ONU with its random delay; Registration and Acknowledgement with the sender's
 // ONU-ID and the SeqNo of the request, or 0. The Registration ID, an array, goes beside it.

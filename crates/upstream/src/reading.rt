@@ -5,10 +5,10 @@ ghost use lib.ListN.{length};
 ghost use Rattle.ploam.specs.Layout.{messageOctets, at16, at32, addressOf, typeOf};
 ghost use Rattle.ploam.specs.Reading.{serialAt};
 ghost use Rattle.upstream.specs.Upstream.{acknowledged, heardAs, heard, registrationIdOf};
-use super::Completion;
 use super::Heard;
 use super::UpstreamMessage;
 use ids::OnuId;
+use ploam::Completion;
 use ploam::MESSAGE_OCTETS;
 use ploam::SerialNumber;
 use ploam::reading::join16;
@@ -51,8 +51,11 @@ fn acknowledged(onu: OnuId, seq: u8, code: u8) -> Heard
     match code {
         0 => Heard::Said(UpstreamMessage::Acknowledgement(onu, seq, Completion::Ok)),
         1 => Heard::Said(UpstreamMessage::Acknowledgement(onu, seq, Completion::NoMessage)),
-        2 => Heard::Said(UpstreamMessage::Acknowledgement(onu, seq, Completion::Busy)),
-        3 => Heard::Said(UpstreamMessage::Acknowledgement(onu, seq, Completion::UnknownType)),
+        3 => Heard::Said(UpstreamMessage::Acknowledgement(
+            onu,
+            seq,
+            Completion::UnknownMessageType,
+        )),
         4 => Heard::Said(UpstreamMessage::Acknowledgement(onu, seq, Completion::ParameterError)),
         5 => Heard::Said(UpstreamMessage::Acknowledgement(onu, seq, Completion::ProcessingError)),
         _ => Heard::Other,

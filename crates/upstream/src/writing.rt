@@ -7,10 +7,9 @@ ghost use lib.ListN.{length, replicate};
 ghost use lib.Seq.{paste};
 ghost use Rattle.aes.specs.Words.{Octets};
 ghost use Rattle.ploam.specs.Layout.{coveredOctets, typeOf, serialNumberOnu, registration, acknowledgement};
-ghost use Rattle.upstream.specs.Upstream.{capped, completionCode, octets16, octets32};
+ghost use Rattle.upstream.specs.Upstream.{capped, octets16, octets32};
 ghost use Rattle.upstream.specs.Upstream.{upstreamAddress, upstreamOctets};
 ghost use Rattle.upstream.specs.Writing.{laidBy, writtenBy, Leaves};
-use super::Completion;
 use super::UpstreamMessage;
 use super::Written;
 use cmac::Prepared;
@@ -38,19 +37,6 @@ fn capped(delay: u32) -> u32
         LONGEST_DELAY
     } else {
         delay
-    }
-}
-
-fn completion_code(code: Completion) -> u8
-    ensures { λ r. ⌜ r ≡ completionCode code ⌝ }
-{
-    match code {
-        Completion::Ok => 0,
-        Completion::NoMessage => 1,
-        Completion::Busy => 2,
-        Completion::UnknownType => 3,
-        Completion::ParameterError => 4,
-        Completion::ProcessingError => 5,
     }
 }
 
@@ -173,7 +159,7 @@ fn octets(message: UpstreamMessage, id: [u8; 36]) -> [u8; 40]
         UpstreamMessage::Acknowledgement(onu, seq, code) => acknowledgement_octets(
             onu,
             seq,
-            completion_code(code),
+            code.code(),
         ),
     }
 }

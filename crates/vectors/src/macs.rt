@@ -5,11 +5,11 @@ use ids::OnuId;
 use integrity::Direction;
 use libc::STDOUT_FILENO;
 use ploam::AllocChange;
+use ploam::Completion;
 use ploam::Content;
 use ploam::Message;
 use ploam::Received;
 use ploam::SerialNumber;
-use upstream::Completion;
 use upstream::UpstreamMessage;
 use upstream::Written;
 

@@ -20,13 +20,9 @@ returns-5 : tie.Need-returns-5
 returns-5 c = rw (c .match .keys5)
 
 returns-6 : tie.Need-returns-6
-returns-6 c = rw (c .match .keys6)
-
-returns-7 : tie.Need-returns-7
-returns-7 c =
+returns-6 c =
     let rest = c .match .rest in
     simp (
-      ne-eqb _ _ (rest .0 .0 .0 .0 .0 .1),
       ne-eqb _ _ (rest .0 .0 .0 .0 .1),
       ne-eqb _ _ (rest .0 .0 .0 .1),
       ne-eqb _ _ (rest .0 .0 .1),
@@ -36,4 +32,4 @@ returns-7 c =
 
 pub acknowledged-spec : {M : Type 1} → statement M
 acknowledged-spec =
-    tie.close (tie.spec returns returns-2 returns-3 returns-4 returns-5 returns-6 returns-7)
+    tie.close (tie.spec returns returns-2 returns-3 returns-4 returns-5 returns-6)

@@ -28,8 +28,8 @@ registration-octets-requires c κs = search needs
 enum-known-message-3 : tie.Need-enum-known-message-3
 enum-known-message-3 c = search needs
 
-completion-code-requires : tie.Need-completion-code-requires
-completion-code-requires c κs = search needs
+code-requires : tie.Need-code-requires
+code-requires c κs = search needs
 
 acknowledgement-octets-requires : tie.Need-acknowledgement-octets-requires
 acknowledgement-octets-requires c κs = search needs
@@ -55,7 +55,7 @@ returns-3 c =
     let payload = c .before .before .before .message3 .given .0 in
     rw (c .before .before .before .message3 .given .1)
     (c .acknowledgement-octets .ensures
-    ∙ ap (λ (k : ℕ). octets16 (payload .0 .0) ++ acknowledgement ∷ payload .1 .0 ∷ k ∷ replicate 35 0) (c .before .completion-code .ensures))
+    ∙ ap (λ (k : ℕ). octets16 (payload .0 .0) ++ acknowledgement ∷ payload .1 .0 ∷ k ∷ replicate 35 0) (c .before .code .ensures))
 
 pub octets-spec : {M : Type 1} → statement M
 octets-spec =
@@ -67,7 +67,7 @@ octets-spec =
     enum-known-message-2
     registration-octets-requires
     enum-known-message-3
-    completion-code-requires
+    code-requires
     acknowledgement-octets-requires
     returns
     returns-2

@@ -7,42 +7,31 @@ use mathlib.Core.Bool.{Bool, cond}
 use lib.Dec.{eqb}
 use Rattle.ids.specs.declared.OnuId.{OnuId}
 use Rattle.ploam.specs.Reading.{serialAt}
-use Rattle.upstream.specs.declared.Completion as carried
-use Rattle.upstream.specs.declared.Completion.the-variants as code
 use Rattle.upstream.specs.declared.UpstreamMessage.{UpstreamMessage}
 use Rattle.upstream.specs.declared.UpstreamMessage.the-variants as says
 use Rattle.station.specs.declared.Activation.{Activation}
 use Rattle.station.specs.declared.Activation.the-variants.{Initial, SerialNumber, Ranging, Operation, Intermittent, EmergencyStop}
 use Rattle.station.specs.declared.Station.{Station}
-use Rattle.link.specs.declared.Completion.{Completion}
-use Rattle.link.specs.declared.Completion.the-variants.{Ok, NoMessage, UnknownMessageType, ParameterError, ProcessingError}
+use Rattle.ploam.specs.declared.Completion.the-variants.{NoMessage}
 use Rattle.link.specs.declared.Response.{Response}
 use Rattle.link.specs.declared.Response.the-variants.{Registration, Acknowledgement}
 use Rattle.link.specs.declared.Owed.{Owed}
 use Rattle.link.specs.declared.Queue.{Queue}
 use Rattle.link.specs.Link.{oldest, paid, withOwed}
 use Rattle.station.specs.Station.{withLink}
-use Rattle.activation.specs.declared.replying.Reply.{Reply}
-use Rattle.activation.specs.declared.replying.Reply.the-variants.{Silent, Says}
-
--- the completion code that the message carries
-abbrev pub sent : Completion → carried.Completion
-sent Ok = code.Ok
-sent NoMessage = code.NoMessage
-sent UnknownMessageType = code.UnknownType
-sent ParameterError = code.ParameterError
-sent ProcessingError = code.ProcessingError
+use Rattle.replies.specs.declared.replying.Reply.{Reply}
+use Rattle.replies.specs.declared.replying.Reply.the-variants.{Silent, Says}
 
 abbrev pub responding : OnuId → Response → ℕ → UpstreamMessage
 responding onu Registration seq = says.Registration onu seq
-responding onu (Acknowledgement completion) seq = says.Acknowledgement onu seq (sent completion)
+responding onu (Acknowledgement completion) seq = says.Acknowledgement onu seq completion
 
 -- an answer repeats the SeqNo of the message that asked for it
 abbrev pub answering : OnuId → Owed → UpstreamMessage
 answering onu owed = responding onu (owed .response) (owed .«seq_no»)
 
 abbrev pub noMessage : OnuId → UpstreamMessage
-noMessage onu = says.Acknowledgement onu 0 code.NoMessage
+noMessage onu = says.Acknowledgement onu 0 NoMessage
 
 abbrev pub inOperation : OnuId → Queue → UpstreamMessage
 inOperation onu owed = cond (eqb (owed .count) 0) (noMessage onu) (answering onu (oldest owed))

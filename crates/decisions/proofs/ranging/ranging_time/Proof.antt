@@ -1,11 +1,11 @@
--- `effects::ranging::ranging_time` meets its contract.
+-- `decisions::ranging::ranging_time` meets its contract.
 -- Assumes nothing.
 use mathlib.Core.Path.{_∙_, sym}
 use borrow.Author.Tests.{eq-eqb, ne-eqb}
-use Rattle.effects.specs.Ranging.{rangingTime, answered, unanswered}
+use Rattle.decisions.specs.Ranging.{rangingTime, answered, unanswered}
 use borrow.Author.Needs.{needs}
-use Rattle.effects.proofs.ranging.ranging_time.Statement.{statement}
-use Rattle.effects.proofs.ranging.ranging_time.Tie as tie
+use Rattle.decisions.proofs.ranging.ranging_time.Statement.{statement}
+use Rattle.decisions.proofs.ranging.ranging_time.Tie as tie
 
 ignored-requires : tie.Need-ignored-requires
 ignored-requires c κs = search needs

@@ -1,9 +1,9 @@
--- `activation::replying::reply_of` meets its contract.
+-- `replies::replying::reply_of` meets its contract.
 -- Assumes nothing.
-use Rattle.activation.specs.Replying.{replyOf}
+use Rattle.replies.specs.Replying.{replyOf}
 use borrow.Author.Needs.{needs}
-use Rattle.activation.proofs.replying.reply_of.Statement.{statement}
-use Rattle.activation.proofs.replying.reply_of.Tie as tie
+use Rattle.replies.proofs.replying.reply_of.Statement.{statement}
+use Rattle.replies.proofs.replying.reply_of.Tie as tie
 
 enum-told : tie.Need-enum-told
 enum-told c = search needs

@@ -1,8 +1,8 @@
--- `activation::replying::answering` meets its contract.
+-- `replies::replying::answering` meets its contract.
 -- Assumes nothing.
 use borrow.Author.Needs.{needs}
-use Rattle.activation.proofs.replying.answering.Statement.{statement}
-use Rattle.activation.proofs.replying.answering.Tie as tie
+use Rattle.replies.proofs.replying.answering.Statement.{statement}
+use Rattle.replies.proofs.replying.answering.Tie as tie
 
 enum-told : tie.Need-enum-told
 enum-told c = search needs

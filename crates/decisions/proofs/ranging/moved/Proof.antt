@@ -1,11 +1,11 @@
--- `effects::ranging::moved` meets its contract.
+-- `decisions::ranging::moved` meets its contract.
 -- Assumes nothing.
-use Rattle.effects.proofs.Laws.{fits-add, over-add}
+use Rattle.decisions.proofs.Sums.{fits-add, over-add}
 use native.Mathlib.Omega.{arith}
 use borrow.Author.Tests.{le-leb, lt-leb}
 use borrow.Author.Needs.{needs}
-use Rattle.effects.proofs.ranging.moved.Statement.{statement}
-use Rattle.effects.proofs.ranging.moved.Tie as tie
+use Rattle.decisions.proofs.ranging.moved.Statement.{statement}
+use Rattle.decisions.proofs.ranging.moved.Tie as tie
 
 enum-told : tie.Need-enum-told
 enum-told c = search needs

@@ -1,10 +1,10 @@
--- `activation::replying::in_operation` meets its contract.
+-- `replies::replying::in_operation` meets its contract.
 -- Assumes nothing.
 use mathlib.Core.Path.{_∙_}
 use borrow.Author.Tests.{eq-eqb, ne-eqb}
 use borrow.Author.Needs.{needs}
-use Rattle.activation.proofs.replying.in_operation.Statement.{statement}
-use Rattle.activation.proofs.replying.in_operation.Tie as tie
+use Rattle.replies.proofs.replying.in_operation.Statement.{statement}
+use Rattle.replies.proofs.replying.in_operation.Tie as tie
 
 returns : tie.Need-returns
 returns c = rw (eq-eqb _ _ (c .if1 .taken))

@@ -1,12 +1,12 @@
--- `activation::replying::after_reply` meets its contract.
+-- `replies::replying::after_reply` meets its contract.
 -- Assumes nothing.
 use mathlib.Core.Path.{_≡_, _∙_, sym, ap}
 use Rattle.station.specs.declared.Activation.{Activation}
 use Rattle.station.specs.declared.Activation.the-variants.{Operation}
-use Rattle.activation.specs.Replying.{afterReply, afterIn}
+use Rattle.replies.specs.Replying.{afterReply, afterIn}
 use borrow.Author.Needs.{needs}
-use Rattle.activation.proofs.replying.after_reply.Statement.{statement}
-use Rattle.activation.proofs.replying.after_reply.Tie as tie
+use Rattle.replies.proofs.replying.after_reply.Statement.{statement}
+use Rattle.replies.proofs.replying.after_reply.Tie as tie
 
 enum-told : tie.Need-enum-told
 enum-told c = search needs

@@ -1,10 +1,9 @@
--- What the code tests, as the definitions say it.
+-- A sum of delays that the code tests without making it.
 -- Assumes nothing.
 use Prim.Native.Nat.{ℕ, _+_, _-_, _≤_, _<_}
 use native.Mathlib.Omega.{arith}
-use Rattle.effects.specs.Ranging.{mostDelay}
+use Rattle.decisions.specs.Ranging.{mostDelay}
 
--- a sum that the code tests without making it
 pub fits-add : (delay amount : ℕ) → amount ≤ mostDelay - delay → delay ≤ mostDelay → delay + amount ≤ mostDelay
 fits-add delay amount h k = omega arith
 

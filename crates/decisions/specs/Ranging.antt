@@ -7,13 +7,13 @@ use mathlib.Core.Bool.{Bool, true, false, _&&_, not, cond}
 use lib.Dec.{eqb, leb}
 use Rattle.ploam.specs.declared.Adjustment.{Adjustment}
 use Rattle.ploam.specs.declared.Adjustment.the-variants.{Absolute, Add, Subtract}
-use Rattle.link.specs.declared.Completion.the-variants.{Ok, ParameterError}
+use Rattle.ploam.specs.declared.Completion.the-variants.{Ok, ParameterError}
 use Rattle.station.specs.States.{o4, o5}
 use Rattle.effects.specs.declared.Change.the-variants.{Keep, Range, Delay}
 use Rattle.effects.specs.declared.Effect.{Effect}
-use Rattle.effects.specs.declared.ranging.Target.{Target}
-use Rattle.effects.specs.declared.ranging.Target.the-variants.{To, Outside}
+use Rattle.decisions.specs.declared.ranging.Target.{Target}
+use Rattle.decisions.specs.declared.ranging.Target.the-variants.{To, Outside}
 use Rattle.effects.specs.Effects.{ignored, does, answers}
 
 abbrev pub mostDelay : ℕ
 mostDelay = 4294967295

@@ -1,17 +1,17 @@
 // Ranging_Time: where the equalization delay moves, and what is said of it.
 ghost use mathlib.Core.Path.{_≡_};
 ghost use mathlib.Core.Bool.{Bool};
 ghost use Rattle.effects.specs.Effects.{does, answers, ignored};
-ghost use Rattle.effects.specs.Ranging.{absolute, moved, answered, unanswered, rangingTime};
-use crate::Change;
-use crate::Effect;
-use crate::O4;
-use crate::O5;
-use crate::answers;
-use crate::does;
-use crate::ignored;
-use link::Completion;
+ghost use Rattle.decisions.specs.Ranging.{absolute, moved, answered, unanswered, rangingTime};
+use effects::Change;
+use effects::Effect;
+use effects::answers;
+use effects::does;
+use effects::ignored;
 use ploam::Adjustment;
+use ploam::Completion;
+use station::O4;
+use station::O5;
 
 // Where a delay goes: to a number of 32 bits, or outside.
 pub enum Target {

@@ -2,11 +2,12 @@
 ghost use mathlib.Core.Path.{_≡_};
 ghost use Prim.Native.Nat.{_+_, _*_};
 ghost use Rattle.ploam.specs.Reading.{serialAt};
-ghost use Rattle.activation.specs.Replying.{sent, answering, inOperation, replyOf, afterReply, Replies, Leaves};
+ghost use Rattle.replies.specs.Replying.{answering, inOperation, replyOf, afterReply, Replies, Leaves};
 use ids::OnuId;
 use link::Owed;
 use link::Queue;
 use link::Response;
+use ploam::Completion;
 use station::Activation;
 use station::Station;
 use upstream::UpstreamMessage;
@@ -17,30 +18,13 @@ pub enum Reply {
     Says(UpstreamMessage),
 }
 
-// The completion code that the message carries.
-fn sent(code: link::Completion) -> upstream::Completion
-    ensures { λ r. ⌜ r ≡ sent code ⌝ }
-{
-    match code {
-        link::Completion::Ok => upstream::Completion::Ok,
-        link::Completion::NoMessage => upstream::Completion::NoMessage,
-        link::Completion::UnknownMessageType => upstream::Completion::UnknownType,
-        link::Completion::ParameterError => upstream::Completion::ParameterError,
-        link::Completion::ProcessingError => upstream::Completion::ProcessingError,
-    }
-}
-
 fn answering(onu: OnuId, owed: Owed) -> UpstreamMessage
     ensures { λ r. ⌜ r ≡ answering onu owed ⌝ }
 {
     let response = owed.response;
     match response {
         Response::Registration => UpstreamMessage::Registration(onu, owed.seq_no),
-        Response::Acknowledgement(code) => UpstreamMessage::Acknowledgement(
-            onu,
-            owed.seq_no,
-            sent(code),
-        ),
+        Response::Acknowledgement(code) => UpstreamMessage::Acknowledgement(onu, owed.seq_no, code),
     }
 }
 
@@ -48,7 +32,7 @@ fn in_operation(onu: OnuId, owed: Queue) -> UpstreamMessage
     ensures { λ r. ⌜ r ≡ inOperation onu owed ⌝ }
 {
     if owed.count == 0 {
-        return UpstreamMessage::Acknowledgement(onu, 0, upstream::Completion::NoMessage);
+        return UpstreamMessage::Acknowledgement(onu, 0, Completion::NoMessage);
     }
     answering(onu, owed.oldest())
 }

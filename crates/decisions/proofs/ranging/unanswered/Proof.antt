@@ -1,8 +1,8 @@
--- `effects::ranging::unanswered` meets its contract.
+-- `decisions::ranging::unanswered` meets its contract.
 -- Assumes nothing.
 use borrow.Author.Needs.{needs}
-use Rattle.effects.proofs.ranging.unanswered.Statement.{statement}
-use Rattle.effects.proofs.ranging.unanswered.Tie as tie
+use Rattle.decisions.proofs.ranging.unanswered.Statement.{statement}
+use Rattle.decisions.proofs.ranging.unanswered.Tie as tie
 
 enum-known-to : tie.Need-enum-known-to
 enum-known-to c = search needs

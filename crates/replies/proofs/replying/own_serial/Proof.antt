@@ -1,8 +1,8 @@
--- `activation::replying::own_serial` meets its contract.
+-- `replies::replying::own_serial` meets its contract.
 -- Assumes nothing.
 use borrow.Author.Needs.{needs}
-use Rattle.activation.proofs.replying.own_serial.Statement.{statement}
-use Rattle.activation.proofs.replying.own_serial.Tie as tie
+use Rattle.replies.proofs.replying.own_serial.Statement.{statement}
+use Rattle.replies.proofs.replying.own_serial.Tie as tie
 
 array-read-join : tie.Need-array-read-join
 array-read-join c = search needs

@@ -1,8 +1,8 @@
--- `effects::ranging::answered` meets its contract.
+-- `decisions::ranging::answered` meets its contract.
 -- Assumes nothing.
 use borrow.Author.Needs.{needs}
-use Rattle.effects.proofs.ranging.answered.Statement.{statement}
-use Rattle.effects.proofs.ranging.answered.Tie as tie
+use Rattle.decisions.proofs.ranging.answered.Statement.{statement}
+use Rattle.decisions.proofs.ranging.answered.Tie as tie
 
 enum-known-to : tie.Need-enum-known-to
 enum-known-to c = search needs
