@@ -6,7 +6,7 @@ use Prim.Native.Nat.{ℕ, _+_, _-_}
 use lib.Dec.{leb}
 use lib.ListN.{length, drop, replicate}
 use Rattle.ids.specs.declared.PortId.{PortId}
-use Rattle.framing.specs.Octets.{octets}
+use Rattle.octets.specs.Octets.{octets}
 use Rattle.framing.specs.Layouts.{xgemFits, xgemWord, payloadSize}
 use Rattle.framing.specs.declared.xgem.XgemHeader.{XgemHeader}
 use Rattle.framing.specs.declared.words.Written.{Written}

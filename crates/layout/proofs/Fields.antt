@@ -9,8 +9,8 @@ use lib.ListN.{length, take, drop, length-append, length-drop}
 use lib.Seq.{take-all, take-at, drop-at, take-append-le, drop-append-le}
 use Rattle.ids.specs.declared.AllocId.{AllocId}
 use Rattle.ids.specs.declared.PortId.{PortId}
-use Rattle.framing.specs.Octets.{value, octets}
-use Rattle.framing.proofs.Numbers.{value-octets, octets-length}
+use Rattle.octets.specs.Octets.{value, octets}
+use Rattle.octets.proofs.Numbers.{value-octets, octets-length}
 use Rattle.station.specs.declared.Activation.{Activation}
 use Rattle.station.specs.declared.Activation.the-variants.{Initial, SerialNumber, Ranging, Operation, Intermittent, EmergencyStop}
 use Rattle.link.specs.declared.Response.{Response}

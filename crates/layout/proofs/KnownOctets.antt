@@ -9,8 +9,8 @@ use lib.Dec.{eqb, leb, ltb, lit<}
 use lib.ListN.{length, getD, take, drop, length-append, length-take, length-drop, take-append-drop, List·getD-eq-default}
 use lib.Seq.{take-all, take-take, take-add, drop-drop, getD-take, getD-drop, length-take-le}
 use borrow.Author.Tests.{ltb-true, ltb-false, eqb-true, eqb-false, eq-eqb, ne-eqb, le-leb, lt-leb}
-use Rattle.framing.specs.Octets.{value, octets}
-use Rattle.framing.proofs.Numbers.{Bytes, octets-value, octets-length, value-octets, value-lt}
+use Rattle.octets.specs.Octets.{value, octets}
+use Rattle.octets.proofs.Numbers.{Bytes, octets-value, octets-length, value-octets, value-lt}
 use Rattle.integrity.specs.Integrity.{same}
 use Rattle.integrity.proofs.Same.{same-refl, same-equal}
 use Rattle.station.specs.declared.Activation.{Activation}

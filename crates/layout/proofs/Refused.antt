@@ -8,7 +8,7 @@ use Prim.Native.Nat.{ℕ, _+_, _≤_, _<_}
 use native.Mathlib.Omega.{arith}
 use lib.ListN.{length, take, drop, length-take, length-drop}
 use lib.Seq.{take-take, drop-at, drop-drop}
-use Rattle.framing.specs.Octets.{value, octets}
+use Rattle.octets.specs.Octets.{value, octets}
 use Rattle.framing.specs.Reads.{fields}
 use Rattle.station.specs.declared.Station.{Station}
 use Rattle.station.specs.Limits.{serialOctets, registrationOctets}

@@ -9,10 +9,10 @@ use lib.Dec.{leb}
 use lib.ListN.{length, take, drop, length-append, take-append-drop, replicate}
 use lib.Seq.{take-at, drop-at, length-take-le}
 use borrow.Author.Tests.{le-leb, leb-true, leb-false}
-use Rattle.framing.specs.Octets.{value, octets}
+use Rattle.octets.specs.Octets.{value, octets}
 use Rattle.framing.specs.Reads.{Found, fields, unreadable, short}
 use Rattle.framing.specs.Writes.{put}
-use Rattle.framing.proofs.Numbers.{value-octets}
+use Rattle.octets.proofs.Numbers.{value-octets}
 use Rattle.integrity.specs.Integrity.{same}
 use Rattle.integrity.proofs.Same.{same-refl, same-equal}
 use Rattle.station.specs.declared.Station.{Station}

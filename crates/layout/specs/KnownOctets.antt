@@ -5,7 +5,7 @@ use mathlib.Core.List.{List}
 use mathlib.Core.Bool.{Bool, true, _&&_, not}
 use lib.Dec.{eqb, leb}
 use lib.ListN.{getD, drop}
-use Rattle.framing.specs.Octets.{value}
+use Rattle.octets.specs.Octets.{value}
 use Rattle.station.specs.States.{stateNumber}
 use Rattle.ports.specs.Limits.{slots}
 use Rattle.link.specs.Limits.{mostOwed}

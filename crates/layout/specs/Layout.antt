@@ -8,7 +8,7 @@ use lib.Dec.{eqb, leb}
 use lib.ListN.{length, take, drop, replicate}
 use Rattle.ids.specs.declared.AllocId.{AllocId}
 use Rattle.ids.specs.declared.PortId.{PortId}
-use Rattle.framing.specs.Octets.{value, octets}
+use Rattle.octets.specs.Octets.{value, octets}
 use Rattle.framing.specs.Reads.{Found, fields, unreadable, short}
 use Rattle.framing.specs.Writes.{put}
 use Rattle.integrity.specs.Integrity.{same}
@@ -24,7 +24,7 @@ use Rattle.link.specs.declared.Allocs.{Allocs}
 use Rattle.link.specs.declared.Queue.{Queue}
 use Rattle.link.specs.declared.Link.{Link}
 use Rattle.ports.specs.declared.Ports.{Ports}
-use Rattle.station.specs.States.{stateNumber}
+use Rattle.station.specs.States.{o23, o4, o5, o6, o7, stateNumber}
 use Rattle.ploam.specs.Completions.{completionCode}
 use Rattle.station.specs.Station.{powerOn}
 use Rattle.layout.specs.declared.StateRead.{StateRead}
@@ -110,9 +110,9 @@ encoded s =
 
 abbrev pub activationBy : ℕ → ℕ → Activation
 activationBy number left =
-    cond (eqb number 2) SerialNumber
-    (cond (eqb number 4) (Ranging left)
-    (cond (eqb number 5) Operation (cond (eqb number 6) (Intermittent left) (cond (eqb number 7) EmergencyStop Initial))))
+    cond (eqb number o23) SerialNumber
+    (cond (eqb number o4) (Ranging left)
+    (cond (eqb number o5) Operation (cond (eqb number o6) (Intermittent left) (cond (eqb number o7) EmergencyStop Initial))))
 
 abbrev pub responseBy : ℕ → Response
 responseBy number =

@@ -2,7 +2,7 @@
 ghost use mathlib.Core.Path.{_≡_};
 ghost use Prim.Native.Nat.{_≤_};
 ghost use lib.ListN.{length};
-ghost use Rattle.framing.specs.Octets.{value};
+ghost use Rattle.octets.specs.Octets.{value};
 ghost use Rattle.station.specs.Limits.{serialOctets, registrationOctets};
 ghost use Rattle.link.specs.Limits.{addedAllocs, mostOwed, keyOctets};
 ghost use Rattle.ports.specs.Limits.{slots, addedPorts};
@@ -29,19 +29,19 @@ use station::Station;
 pub(crate) fn activation_by(number: u8, left: u32) -> Activation
     ensures { λ r. ⌜ r ≡ activationBy number left ⌝ }
 {
-    if number == 2 {
+    if number == station::O23 {
         return Activation::SerialNumber;
     }
-    if number == 4 {
+    if number == station::O4 {
         return Activation::Ranging(left);
     }
-    if number == 5 {
+    if number == station::O5 {
         return Activation::Operation;
     }
-    if number == 6 {
+    if number == station::O6 {
         return Activation::Intermittent(left);
     }
-    if number == 7 {
+    if number == station::O7 {
         return Activation::EmergencyStop;
     }
     Activation::Initial

@@ -67,8 +67,9 @@ fn put_alloc_ids(l: [AllocId; 16], out: &mut [u8])
     while i < link::ADDED_ALLOCS {
         let at = offsets::ID_WIDTH * i;
         let one = l[i];
-        out[at] = (one.0 / 0x100 % 256) as u8;
-        out[at + 1] = (one.0 / 1 % 256) as u8;
+        let o = octets::split16(one.0);
+        out[at] = o[0];
+        out[at + 1] = o[1];
         i += 1;
     }
 }
@@ -81,8 +82,9 @@ fn put_port_ids(l: [PortId; 16], out: &mut [u8])
     while i < ports::ADDED_PORTS {
         let at = offsets::ID_WIDTH * i;
         let one = l[i];
-        out[at] = (one.0 / 0x100 % 256) as u8;
-        out[at + 1] = (one.0 / 1 % 256) as u8;
+        let o = octets::split16(one.0);
+        out[at] = o[0];
+        out[at + 1] = o[1];
         i += 1;
     }
 }
@@ -94,9 +96,9 @@ fn put_lengths(l: [u16; 17], out: &mut [u8])
     let mut i: usize = 0;
     while i < ports::SLOTS {
         let at = offsets::LENGTH_WIDTH * i;
-        let one = l[i];
-        out[at] = (one / 0x100 % 256) as u8;
-        out[at + 1] = (one / 1 % 256) as u8;
+        let o = octets::split16(l[i]);
+        out[at] = o[0];
+        out[at + 1] = o[1];
         i += 1;
     }
 }

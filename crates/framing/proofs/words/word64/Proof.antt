@@ -2,7 +2,7 @@
 -- Assumes nothing.
 use denote.Ref.{now}
 use native.Mathlib.Omega.{arith}
-use Rattle.framing.proofs.Numbers.{value-step}
+use Rattle.octets.proofs.Numbers.{value-step}
 use borrow.Author.Needs.{needs}
 use Rattle.framing.proofs.words.word64.Statement.{statement}
 use Rattle.framing.proofs.words.word64.Tie as tie

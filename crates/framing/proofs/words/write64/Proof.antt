@@ -9,7 +9,7 @@ use native.Mathlib.Omega.{arith}
 use lib.ListN.{length}
 use Rattle.hec.specs.Writes.{protected}
 use Rattle.hec.proofs.Protected.{is-protected}
-use Rattle.framing.specs.Octets.{octets}
+use Rattle.octets.specs.Octets.{octets}
 use Rattle.framing.specs.Writes.{put}
 use Rattle.framing.proofs.Steps.{unfit, no-room, done}
 use borrow.Author.Needs.{needs}

@@ -9,7 +9,7 @@ use lib.ListN.{length, drop, replicate, length-set, length-take, length-drop}
 use lib.Seq.{sets}
 use Rattle.layout.specs.Rows.{many}
 use Rattle.layout.proofs.Laws.{many-start, many-turn, many-end}
-use Rattle.framing.specs.Octets.{value}
+use Rattle.octets.specs.Octets.{value}
 use Rattle.ports.specs.Limits.{slots}
 use Rattle.layout.specs.Offsets.{lengthWidth}
 use Rattle.layout.proofs.reading.lengths_in.Statement.{statement}

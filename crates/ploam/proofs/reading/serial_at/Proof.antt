@@ -1,8 +1,8 @@
--- `upstream::reading::serial_number` meets its contract.
+-- `ploam::reading::serial_at` meets its contract.
 -- Assumes nothing.
 use borrow.Author.Needs.{needs}
-use Rattle.upstream.proofs.reading.serial_number.Statement.{statement}
-use Rattle.upstream.proofs.reading.serial_number.Tie as tie
+use Rattle.ploam.proofs.reading.serial_at.Statement.{statement}
+use Rattle.ploam.proofs.reading.serial_at.Tie as tie
 
 number32-requires : tie.Need-number32-requires
 number32-requires c κs = search needs
@@ -16,6 +16,6 @@ number32-requires-2 c κs = search needs
 returns : tie.Need-returns
 returns c = cc
 
-pub serial-number-spec : {M : Type 1} → statement M
-serial-number-spec =
+pub serial-at-spec : {M : Type 1} → statement M
+serial-at-spec =
     tie.close (tie.spec number32-requires add-number32 number32-requires-2 returns)

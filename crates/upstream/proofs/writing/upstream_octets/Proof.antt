@@ -1,14 +1,15 @@
--- `upstream::writing::octets` meets its contract.
+-- `upstream::writing::upstream_octets` meets its contract.
 -- Assumes nothing.
 use mathlib.Core.List.{_∷_, _++_}
 use Prim.Native.Nat.{ℕ}
 use lib.ListN.{replicate}
+use Rattle.octets.specs.Octets.{octets}
 use Rattle.ploam.specs.Layout.{serialNumberOnu, acknowledgement}
 use mathlib.Core.Path.{_∙_, ap}
-use Rattle.upstream.specs.Upstream.{octets16, octets32, upstreamOctets}
+use Rattle.upstream.specs.Upstream.{upstreamOctets}
 use borrow.Author.Needs.{needs}
-use Rattle.upstream.proofs.writing.octets.Statement.{statement}
-use Rattle.upstream.proofs.writing.octets.Tie as tie
+use Rattle.upstream.proofs.writing.upstream_octets.Statement.{statement}
+use Rattle.upstream.proofs.writing.upstream_octets.Tie as tie
 
 enum-known-message : tie.Need-enum-known-message
 enum-known-message c = search needs
@@ -42,7 +43,7 @@ returns c =
     (c .serial-octets .ensures
     ∙ ap
     (λ (d : ℕ).
-    octets16 1023 ++ serialNumberOnu ∷ 0 ∷ (octets32 (serial .vendor) ++ octets32 (serial .vssn) ++ octets32 d ++ replicate 24 0))
+    octets 2 1023 ++ serialNumberOnu ∷ 0 ∷ (octets 4 (serial .vendor) ++ octets 4 (serial .vssn) ++ octets 4 d ++ replicate 24 0))
     (c .before .capped .ensures))
 
 returns-2 : tie.Need-returns-2
@@ -55,10 +56,10 @@ returns-3 c =
     let payload = c .before .before .before .message3 .given .0 in
     rw (c .before .before .before .message3 .given .1)
     (c .acknowledgement-octets .ensures
-    ∙ ap (λ (k : ℕ). octets16 (payload .0 .0) ++ acknowledgement ∷ payload .1 .0 ∷ k ∷ replicate 35 0) (c .before .code .ensures))
+    ∙ ap (λ (k : ℕ). octets 2 (payload .0 .0) ++ acknowledgement ∷ payload .1 .0 ∷ k ∷ replicate 35 0) (c .before .code .ensures))
 
-pub octets-spec : {M : Type 1} → statement M
-octets-spec =
+pub upstream-octets-spec : {M : Type 1} → statement M
+upstream-octets-spec =
     tie.close
     (tie.spec
     enum-known-message
