@@ -1,6 +1,6 @@
 -- The entries that are called planned are exactly those of the plan, in map order.
 -- Assumes nothing.
-use Prim.Native.Nat.{ℕ, zero, suc, _+_, _-_, _≤_, _<_}
+use Prim.Native.Nat.{ℕ, zero, suc, _+_, _-_}
 use mathlib.Core.Path.{_≡_, _∙_, refl, sym, ap}
 use mathlib.Core.Bool.{Bool, true, false, cond}
 use mathlib.Core.List.{List, [], _∷_, _++_}
@@ -18,7 +18,7 @@ use Rattle.entries.specs.Standings.{standing, isPlanned}
 use Rattle.entries.proofs.Facts.{ours-is, apart-unplanned}
 use Rattle.series.specs.Limits.{entriesABurst}
 use Rattle.series.specs.declared.Around.{Around}
-use Rattle.series.specs.Series.{Series, entryAt, entryCount, standingsFrom, standings, run, seriesAt, seriesOf, arriving, beyond, verdictOf, planned, plannedOf}
+use Rattle.series.specs.Series.{Series, entryAt, entryCount, standingsFrom, run, seriesAt, seriesOf, arriving, beyond, verdictOf, planned, plannedOf}
 use Rattle.bwmap.specs.Verdicts.{roles, verdictsOf, verdicts, entriesFrom, entries, called, readable, entriesOf}
 
 -- what is left of the series that is open with k so far

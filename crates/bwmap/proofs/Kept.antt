@@ -2,8 +2,8 @@
 -- planned once, in map order, or passed over for its first reason.
 -- Assumes nothing.
 use Prim.Native.Nat.{ℕ, zero, suc, _+_, _-_, _*_, _^_, _≤_, _<_, zero-le}
-use mathlib.Core.Path.{_≡_, _∙_, refl, sym, ap}
-use mathlib.Core.List.{List, [], _∷_, _++_}
+use mathlib.Core.Path.{_≡_, refl}
+use mathlib.Core.List.{List, [], _∷_}
 use mathlib.Core.Bool.{Bool, true, false, cond}
 use native.Mathlib.Omega.{arith}
 use native.Mathlib.Numerals.{add-one}
@@ -14,7 +14,7 @@ use Rattle.hec.specs.Reads.{Reading, word, unreadable as unreadable-word, readi
 use Rattle.framing.specs.Octets.{value}
 use Rattle.xgtc.specs.Layouts.{allocationOf}
 use Rattle.xgtc.specs.declared.allocation.Allocation.{Allocation}
-use Rattle.framing.specs.Reads.{Found, fields, unreadable, short, taken}
+use Rattle.framing.specs.Reads.{fields, short, taken}
 use Rattle.xgtc.specs.Reads.{readAllocation}
 use Rattle.station.specs.Limits.{upstreamWords}
 use Rattle.entries.specs.Limits.{structureOctets, lastStart}
@@ -27,8 +27,8 @@ use Rattle.entries.specs.Standings.{standing, isPlanned, Mine}
 use Rattle.entries.proofs.Facts.{ours-is, standsAs, head-start}
 use Rattle.series.specs.Limits.{wordsABurst, burstsAFrame, entriesABurst}
 use Rattle.series.specs.declared.Around.{Around}
-use Rattle.series.specs.Series.{Series, entryAt, entryCount, standingsFrom, standings, run, seriesAt, seriesOf, burstWords, endOf, arriving, beyond, judged, verdictOf, planned, lastEnd, carriedOver, plannedOf}
-use Rattle.bwmap.specs.Plan.{entriesIn, records}
+use Rattle.series.specs.Series.{Series, entryAt, entryCount, standingsFrom, standings, run, seriesOf, burstWords, endOf, arriving, beyond, judged, verdictOf, planned, lastEnd, carriedOver, plannedOf}
+use Rattle.plan.specs.Plan.{entriesIn, records}
 use Rattle.bwmap.specs.Promises.{Follow, SeriesIn, Every, Because, Account}
 use Rattle.bwmap.specs.Promises.Account.{done, plans, too-long, overlapping, after-the-last}
 use Rattle.series.proofs.Runs.{run-length}

@@ -17,7 +17,7 @@ use Rattle.entries.proofs.Facts.{ours-is}
 use Rattle.series.specs.declared.Around.{Around}
 use Rattle.series.specs.Series.{Series, entryAt, entryCount, standingsFrom, run, seriesAt, seriesOf, judged, planned}
 use Rattle.plan.specs.Records.{mark}
-use Rattle.bwmap.specs.Plan.{seriesNumbers}
+use Rattle.plan.specs.Plan.{seriesNumbers}
 use Rattle.series.specs.Opens.{closed, opened, joined, goesOn, fits}
 use Rattle.bwmap.specs.Turns.{rest, Run, tally, Running, Stage, between, within, Reached, fieldsOf, allocationAt, allocationsFrom, toCome}
 use Rattle.series.specs.declared.Open.{Open}

@@ -6,7 +6,7 @@ use mathlib.Core.List.{List, [], _∷_, _++_}
 use mathlib.Core.Bool.{true, false}
 use native.Mathlib.Omega.{arith}
 use native.Mathlib.Nat.{add-zero, zero-add, sub-zero}
-use lib.ListN.{length, drop, length-append}
+use lib.ListN.{length, drop}
 use lib.Seq.{sets, sets-eq}
 use Rattle.xgtc.specs.declared.allocation.Allocation.{Allocation}
 use Rattle.entries.specs.declared.Own.{Own}
@@ -15,16 +15,18 @@ use Rattle.entries.specs.Standings.{standing, isPlanned}
 use Rattle.station.specs.States.{silent}
 use Rattle.entries.proofs.Facts.{ours-is, head-start, silent-apart}
 use Rattle.series.specs.Limits.{burstsAFrame}
-use Rattle.bwmap.specs.Limits.{planNumbers}
+use Rattle.plan.specs.Limits.{planNumbers}
 use Rattle.series.specs.declared.Around.{Around}
 use Rattle.series.specs.Series.{Series, entryAt, entryCount, standingsFrom, run, seriesAt, seriesOf, grants, wordsOf, endOf, arriving, beyond, judged, verdictOf, planned, lastEnd, carriedOver, plannedOf}
 use Rattle.plan.specs.Records.{mark}
-use Rattle.bwmap.specs.Plan.{moreNumbers, seriesNumbers, numbers, entriesIn, records, messages, Left, counted, written}
+use Rattle.plan.specs.Plan.{seriesNumbers, numbers, entriesIn, records, messages, written}
+use Rattle.bwmap.specs.Plan.{PlanLeft, counted}
 use Rattle.bwmap.specs.Turns.{rest, Run, tally, Outcome, outcome, toCome, starting, Small}
 use Rattle.bwmap.specs.declared.Walk.{Walk}
 use Rattle.bwmap.specs.declared.Answer.the-variants.{Planned as PlannedAnswer}
 use Rattle.series.proofs.Runs.{run-length, series-drop}
 use Rattle.series.proofs.Judged.{planned-full}
+use Rattle.plan.proofs.Lengths.{length-series, length-numbers}
 use Rattle.bwmap.proofs.Laws.{rest-cons, rest-nil}
 
 -- ---- lists
@@ -34,25 +36,6 @@ sets-append p i [] ys = rw (add-zero i)
 sets-append p i (x ∷ xs) ys =
     let e : i + suc (length xs) ≡ suc i + length xs = omega arith in
     rw e (sets-append _ (suc i) xs ys)
-
-pub length-more : (h : Allocation) (l : List Allocation) → length (moreNumbers h l) ≡ 4 * length l
-length-more h [] = refl
-length-more h (a ∷ l) =
-    let ih = length-more h l in
-    omega arith
-
-pub length-series : (s : Series) → length (seriesNumbers s) ≡ 4 * entriesIn s
-unfolding seriesNumbers
-length-series s =
-    let n = length-more (s .head) (s .more) in
-    omega arith
-
--- the count of records is true
-pub length-numbers : (l : List Series) → length (numbers l) ≡ 4 * records l
-length-numbers [] = refl
-length-numbers (s ∷ l) =
-    let ih = length-numbers l in
-    omega (arith, length-append (seriesNumbers s) (numbers l), length-series s)
 
 -- ---- a run, and what stands behind it
 
@@ -165,7 +148,7 @@ module _ (own : Own) (m p : List ℕ) (w : Walk) where
 -- what the walk has written and counted is the plan
 pub finish
     : (p q : List ℕ) (w : Walk) (c over : ℕ) (l : List Series) → Small w → planNumbers ≤ length p → outcome q w [] ≡ outcome p (starting c) l → over ≡ carriedOver (w .around .end)
-    → _≡_ {A = Left}
+    → _≡_ {A = PlanLeft}
     (record { answer = PlannedAnswer (record { records = w .records; bursts = w .around .bursts; messages = w .messages; end = w .around .end; carried = over }); plan = q })
     (record { answer = PlannedAnswer (counted c l); plan = written l p })
 finish p q w c over l small room e ho =
@@ -189,7 +172,7 @@ silent-none own m i (suc j) h = rw (silent-apart own (entryAt m i) h) (silent-no
 
 pub silent-plan
     : (own : Own) (m p : List ℕ) (c end over : ℕ) → silent (own .activation) ≡ true → end ≡ c → over ≡ carriedOver end
-    → _≡_ {A = Left}
+    → _≡_ {A = PlanLeft}
     (record { answer = PlannedAnswer (record { records = 0; bursts = 0; messages = 0; end = end; carried = over }); plan = p })
     (record { answer = PlannedAnswer (counted c (plannedOf own m c)); plan = written (plannedOf own m c) p })
 silent-plan own m p c end over h e o =

@@ -1,21 +1,19 @@
 -- The paper's sums 8 to 11: a map that is written is read again, and the rest is computed.
 -- Assumes nothing.
-use Prim.Native.Nat.{ℕ, zero, suc, _+_, _*_, _/_, _^_, _≤_, _<_}
+use Prim.Native.Nat.{ℕ, suc, _+_, _*_, _≤_}
 use mathlib.Core.Path.{_≡_, _∙_, refl, sym, ap, ap₂}
 use mathlib.Core.Bool.{Bool, true, false, cond}
 use mathlib.Core.List.{List, [], _∷_, _++_}
 use native.Mathlib.Omega.{arith}
-use native.Mathlib.Nat.{lt-of-lt-of-le}
-use lib.Dec.{leb, lit≤}
 use lib.ListN.{length, take, drop, length-append}
 use lib.Seq.{take-at, drop-at, drop-drop}
 use borrow.Author.Tests.{le-leb}
-use Rattle.hec.specs.Reads.{Reading, word, reading}
+use Rattle.hec.specs.Reads.{word, reading}
 use Rattle.hec.proofs.Nearest.{is-reading}
 use Rattle.hec.proofs.Words.{undamaged}
 use Rattle.framing.specs.Octets.{value, octets}
 use Rattle.xgtc.specs.Layouts.{allocationOf, allocationFits, allocationWord}
-use Rattle.framing.specs.Reads.{Found, fields, short, taken}
+use Rattle.framing.specs.Reads.{fields, short, taken}
 use Rattle.xgtc.specs.Reads.{readAllocation}
 use Rattle.xgtc.specs.declared.allocation.Allocation.{Allocation}
 use Rattle.framing.proofs.Numbers.{octets-length, value-octets}
@@ -23,9 +21,9 @@ use Rattle.xgtc.proofs.Layouts.{allocation-true, allocation-back}
 use Rattle.entries.specs.declared.Own.{Own}
 use Rattle.entries.specs.declared.Standing.{Standing}
 use Rattle.entries.specs.Standings.{standing, sorted, startUnfit, noRoom, continues, held}
-use Rattle.series.specs.Series.{Series, entryAt, entryCount, standingsFrom, standings, seriesOf, arriving, planned, plannedOf, judged, wordsOf, lastEnd, carriedOver}
+use Rattle.series.specs.Series.{Series, entryAt, entryCount, standingsFrom, seriesOf, arriving, planned, plannedOf, judged, wordsOf, lastEnd, carriedOver}
 use Rattle.plan.specs.Records.{headFlags, moreFlags, burstFlags}
-use Rattle.bwmap.specs.Plan.{numbers, seriesNumbers}
+use Rattle.plan.specs.Plan.{numbers, seriesNumbers}
 use Rattle.bwmap.specs.Sums.{mapOf, five, grant, plan, carries, eight, Sum8, Sum9, Sum10, Sum11}
 
 module _ (a : Allocation) (fits : allocationFits a ≡ true) where

@@ -12,7 +12,7 @@ use Rattle.station.specs.declared.Activation.the-variants.{Operation}
 use Rattle.entries.specs.Limits.{structureOctets, continuing}
 use Rattle.entries.specs.declared.Own.{Own}
 use Rattle.series.specs.Series.{plannedOf, lastEnd, carriedOver}
-use Rattle.bwmap.specs.Plan.{numbers}
+use Rattle.plan.specs.Plan.{numbers}
 
 -- the octets of a map
 abbrev pub mapOf : List Allocation → List ℕ

@@ -13,10 +13,10 @@ use Rattle.entries.specs.declared.Standing.{Standing}
 use Rattle.entries.specs.declared.Standing.the-variants.{Head}
 use Rattle.entries.specs.Standings.{standing, isPlanned}
 use Rattle.series.specs.Limits.{burstsAFrame, entriesABurst}
-use Rattle.bwmap.specs.Limits.{numbersARecord}
+use Rattle.plan.specs.Limits.{numbersARecord}
 use Rattle.series.specs.declared.Around.{Around}
 use Rattle.series.specs.Series.{Series, entryAt, entryCount, standingsFrom, run, seriesOf, grants, wordsOf, arriving, judged, planned, lastEnd}
-use Rattle.bwmap.specs.Plan.{numbers, records, messages}
+use Rattle.plan.specs.Plan.{numbers, records, messages}
 use Rattle.series.specs.Opens.{closed}
 use Rattle.series.specs.declared.Open.{Open}
 use Rattle.bwmap.specs.declared.search.Next.{Next}

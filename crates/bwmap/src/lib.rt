@@ -9,18 +9,13 @@ ghost use Prim.Native.Nat.{_+_, _*_, _≤_, _<_};
 ghost use mathlib.Core.Path.{_≡_};
 ghost use lib.ListN.{length};
 ghost use mathlib.Core.List.{[]};
-ghost use Rattle.bwmap.specs.Limits.{planNumbers};
+ghost use Rattle.plan.specs.Limits.{planNumbers};
 ghost use Rattle.series.specs.Series.{entryCount, carriedOver};
 ghost use Rattle.bwmap.specs.Turns.{outcome, toCome, starting, Small};
 ghost use Rattle.bwmap.specs.Plan.{MapLeaves};
 use search::Next;
 use series::Around;
 use station::limits::UPSTREAM_WORDS;
-
-// Numbers that a plan must have room for.
-pub const PLAN_NUMBERS: usize = series::BURSTS_A_FRAME
-    * series::ENTRIES_A_BURST
-    * records::NUMBERS_A_RECORD;
 
 // What is planned of a map.
 pub struct Plan {
@@ -69,7 +64,7 @@ fn turn(map: &[u8], own: Own, w: Walk, plan: &mut [u16]) -> Walk
             let at = next - s.entries;
             let more = s.entries - 1;
             let h = records::allocation_at(map, at);
-            let place = records::NUMBERS_A_RECORD * w.records;
+            let place = plan::NUMBERS_A_RECORD * w.records;
             records::write_series(map, at + 1, more, h, plan, place);
             Walk {
                 at: next,
@@ -119,7 +114,7 @@ fn walk_map(map: &[u8], own: Own, carried: u16, plan: &mut [u16]) -> Walk
 pub fn plan_map(map: &[u8], own: Own, carried: u16, plan: &mut [u16]) -> Answer
     ensures { λ r. ⌜ MapLeaves own (now (map .entry)) carried (now (plan .entry)) r (now (plan .exit)) ⌝ }
 {
-    if plan.len() < PLAN_NUMBERS {
+    if plan.len() < plan::PLAN_NUMBERS {
         return Answer::PlanTooShort;
     }
     let activation = own.activation;

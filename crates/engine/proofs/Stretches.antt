@@ -17,15 +17,14 @@ use Rattle.framing.specs.Layouts.{payloadSize}
 use Rattle.framing.proofs.Frames.{covers}
 use Rattle.station.specs.declared.Station.{Station}
 use Rattle.ports.specs.declared.Ports.{Ports}
-use Rattle.fragments.specs.declared.Effect.{Effect}
-use Rattle.fragments.specs.declared.Effect.the-variants.{Nothing, Discard, Deliver, Append}
-use Rattle.fragments.specs.Fragments.{effectOf}
+use Rattle.fragments.specs.declared.Reassembly.{Reassembly}
+use Rattle.fragments.specs.declared.Reassembly.the-variants.{Ignored, Dropped, Delivered, Appended}
+use Rattle.fragments.specs.Fragments.{reassemblyOf, portsAfter}
 use Rattle.payload.specs.declared.frames.Next.{Next}
 use Rattle.payload.specs.declared.frames.Next.the-variants.{Done as NoMore, Lost, Frame}
 use Rattle.stretches.specs.declared.Extent.{Extent}
 use Rattle.stretches.specs.declared.StretchPlace as found
 use Rattle.payload.specs.Frames.{Xgem, nextOf, parse}
-use Rattle.payload.specs.Memory.{after}
 use Rattle.stretches.specs.Stretch.{noExtent, aloneAt, stretches, stretchOf, cutOut}
 use Rattle.arrival.specs.Partitions.{headerEnd, payloadOf}
 use Rattle.arrival.specs.Frame.{isOperating}
@@ -70,24 +69,24 @@ abbrev In : ℕ → Extent → Type 0
 In n t = t .at + t .bytes ≤ n
 
 in-on
-    : (n : ℕ) (e : Effect) (at m : ℕ) (ts : List Extent) → at + m ≤ n → ((k : ℕ) → In n (getD ts k noExtent))
+    : (n : ℕ) (e : Reassembly) (at m : ℕ) (ts : List Extent) → at + m ≤ n → ((k : ℕ) → In n (getD ts k noExtent))
     → (k : ℕ) → In n (getD (aloneAt e at m ++ ts) k noExtent)
-in-on n Nothing at m ts h ih k = ih k
-in-on n (Discard slot waits) at m ts h ih k = ih k
-in-on n (Deliver slot have) at m ts h ih zero = go (eqb have 0)
+in-on n Ignored at m ts h ih k = ih k
+in-on n (Dropped slot waits) at m ts h ih k = ih k
+in-on n (Delivered slot have) at m ts h ih zero = go (eqb have 0)
   where
     go : (b : Bool) → In n (cond b (record { at = at; bytes = m }) noExtent)
     go true = h
     go false = omega arith
-in-on n (Deliver slot have) at m ts h ih (suc k) = ih k
-in-on n (Append slot have) at m ts h ih k = ih k
+in-on n (Delivered slot have) at m ts h ih (suc k) = ih k
+in-on n (Appended slot have) at m ts h ih k = ih k
 
 in-all : (n : ℕ) (own : PortId) (p : Ports) (frames : List Xgem) → AllInside n frames → (k : ℕ) → In n (getD (stretches own p frames) k noExtent)
 unfolding stretches
 in-all n own p [] c k = omega arith
 in-all n own p (x ∷ rest) c k =
-    in-on n (effectOf p own (x .port) (x .last) (length (x .body))) (x .place + 8) (length (x .body)) _ (c .0)
-    (in-all n own (after p (effectOf p own (x .port) (x .last) (length (x .body))) (length (x .body))) rest (c .1)) k
+    in-on n (reassemblyOf p own (x .port) (x .last) (length (x .body))) (x .place + 8) (length (x .body)) _ (c .0)
+    (in-all n own (portsAfter p (reassemblyOf p own (x .port) (x .last) (length (x .body))) (length (x .body))) rest (c .1)) k
 
 -- the stretch of delivery k lies within the payload
 pub stretch-inside : (own : PortId) (p : Ports) (payload : List ℕ) (k : ℕ) → In (length payload) (stretchOf own p payload k .stretch)

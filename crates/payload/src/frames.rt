@@ -7,6 +7,8 @@ use framing::xgem;
 use framing::xgem::XgemHeader;
 use hec::Reading64;
 
+pub const XGEM_HEADER_BYTES: usize = 8;
+
 pub enum Next {
     Done,
     Lost,
@@ -17,14 +19,14 @@ pub(crate) fn next_frame(left: &[u8]) -> Next
     ensures { λ r. ⌜ (r ≡ nextOf (now (left .entry))) × (Inside r (length (now (left .entry)))) ⌝ }
 {
     let read = hec::read64_by_octets(framing::word_ahead(left));
-    if left.len() < 8 {
+    if left.len() < XGEM_HEADER_BYTES {
         return Next::Done;
     }
     match read {
         Reading64::Unreadable => Next::Lost,
         Reading64::Word(w) => {
             let x = XgemHeader::of(w);
-            if left.len() - 8 < xgem::payload_size(x.pli) {
+            if left.len() - XGEM_HEADER_BYTES < xgem::payload_size(x.pli) {
                 Next::Lost
             } else {
                 Next::Frame(x)

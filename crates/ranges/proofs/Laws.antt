@@ -13,6 +13,7 @@ use borrow.Author.Tests.{le-leb, eqb-true}
 use Rattle.ids.specs.Places.{some}
 use Rattle.ids.specs.declared.PortId.{PortId}
 use Rattle.ids.specs.Ids.{samePort}
+use Rattle.ports.specs.Limits.{sduBytes}
 use Rattle.ports.specs.Ports.{noPort}
 use Rattle.ranges.specs.Ranges.{every, placeNumber, numbersFrom, times, equalPairs, partialFits, slotFits, partialsFit, lengthFits, emptyFits}
 use Rattle.ranges.proofs.Places.{numbers-length}
@@ -86,7 +87,7 @@ module _ {A : Type 0} (used : ℕ → A → Bool) (ok : A → Bool) (number : A 
 
 partial-both : (b : ℕ) (w e : Bool) → partialFits b w e ≡ (partialFits b w false && (not e || eqb b 0))
 unfolding partialFits
-partial-both b w e = go w e (eqb b 0) (leb b 2048) (λ h. le-leb b 2048 (omega (arith, eqb-true b 0 h)))
+partial-both b w e = go w e (eqb b 0) (leb b sduBytes) (λ h. le-leb b sduBytes (omega (arith, eqb-true b 0 h)))
   where
     kept : (x : Bool) → x ≡ (x && true)
     kept true = refl

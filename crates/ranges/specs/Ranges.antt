@@ -15,7 +15,7 @@ use Rattle.station.specs.declared.Station.{Station}
 use Rattle.link.specs.declared.Allocs.{Allocs}
 use Rattle.ports.specs.declared.Ports.{Ports}
 use Rattle.link.specs.Limits.{addedAllocs, mostOwed}
-use Rattle.ports.specs.Limits.{addedPorts, slots, slotBytes}
+use Rattle.ports.specs.Limits.{addedPorts, slots, sduBytes}
 use Rattle.station.specs.Limits.{upstreamWords, to1, to2}
 use Rattle.ids.specs.Places.{some}
 use Rattle.station.specs.States.{holdsIdentity}
@@ -51,7 +51,7 @@ emptySlot ids (suc i) = samePort (getD ids i noPort) noPort
 
 -- "partials at most 2,048, and 0 for a waiting port or empty slot"
 unfoldable pub partialFits : ℕ → Bool → Bool → Bool
-partialFits bytes waits empty = cond (waits || empty) (eqb bytes 0) (leb bytes slotBytes)
+partialFits bytes waits empty = cond (waits || empty) (eqb bytes 0) (leb bytes sduBytes)
 
 -- the test holds at i and the k - 1 numbers after it
 abbrev pub every : (ℕ → Bool) → ℕ → ℕ → Bool

@@ -11,7 +11,7 @@ use ids::AllocId;
 use ids::OnuId;
 use ids::PortId;
 use link::Allocs;
-use ports::SLOT_BYTES;
+use ports::SDU_BYTES;
 use station::Activation;
 use station::Station;
 use station::limits::LAST_WORD;
@@ -171,7 +171,7 @@ fn length_fits(bytes: u16, waits: bool) -> bool
     if waits {
         return bytes == 0;
     }
-    bytes as usize <= SLOT_BYTES
+    bytes as usize <= SDU_BYTES
 }
 
 fn lengths_fit(lengths: [u16; 17], waiting: [bool; 17]) -> bool

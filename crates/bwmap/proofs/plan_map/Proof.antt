@@ -8,49 +8,34 @@ use Rattle.bwmap.proofs.Steps.{from-start, finish, silent-plan}
 use borrow.Author.Needs.{needs}
 use Rattle.bwmap.proofs.plan_map.Statement.{statement}
 use Rattle.bwmap.proofs.plan_map.Tie as tie
-use Rattle.bwmap.proofs.plan_map.Reads as reads
-use Rattle.bwmap.proofs.plan_map.Lts as lts
-use Rattle.bwmap.proofs.carried_over.Reads as carried-over-reads
-use Rattle.bwmap.proofs.search.long.Reads as long-reads
-use Rattle.bwmap.proofs.walk_map.Reads as walk-map-reads
-use Rattle.station.proofs.Activation.is_silent.Reads as is-silent-reads
 
--- src/lib.rt:123:9
 returns : tie.Need-returns
 returns c = rw (lt-leb _ _ (c .if1 .taken))
 
--- src/lib.rt:126:8
 is-silent-requires : tie.Need-is-silent-requires
 is-silent-requires c κs = search needs
 
--- src/lib.rt:127:13
 long-requires : tie.Need-long-requires
 long-requires c κs = search needs
 
--- src/lib.rt:133:22
 carried-over-requires : tie.Need-carried-over-requires
 carried-over-requires c κs = search needs
 
--- src/lib.rt:128:9
 returns-2 : tie.Need-returns-2
 returns-2 c =
     let a = c .before .before .before .before .before .before .before .args in
     rw (le-leb _ _ (c .before .before .before .before .if1 .left))
     (silent-plan (a .own) (now (a .map)) (now (a .plan)) (a .carried) (c .before .long .result) (c .carried-over .result) (sym (c .before .before .before .is-silent .ensures) ∙ c .before .before .if2 .taken) (c .before .long .ensures .0) (c .carried-over .ensures))
 
--- src/lib.rt:136:9
 walk-map-requires : tie.Need-walk-map-requires
 walk-map-requires c κs = search needs
 
--- src/lib.rt:143:18
 carried-over-requires-2 : tie.Need-carried-over-requires-2
 carried-over-requires-2 c κs = search needs
 
--- src/lib.rt:119:1
 same-length : tie.Need-same-length
 same-length c = search needs
 
--- src/lib.rt:119:1
 returns-3 : tie.Need-returns-3
 returns-3 c =
     let a = c .before .before .before .before .before .before .before .before .before .before .before .args in

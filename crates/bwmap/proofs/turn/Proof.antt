@@ -7,97 +7,74 @@ use Rattle.bwmap.proofs.Opens.{sizes, plan-next}
 use borrow.Author.Needs.{needs}
 use Rattle.bwmap.proofs.turn.Statement.{statement}
 use Rattle.bwmap.proofs.turn.Tie as tie
-use Rattle.bwmap.proofs.turn.Reads as reads
-use Rattle.bwmap.proofs.turn.Lts as lts
-use Rattle.bwmap.proofs.records.allocation_at.Reads as allocation-at-reads
-use Rattle.bwmap.proofs.records.mark.Reads as mark-reads
-use Rattle.bwmap.proofs.records.write_series.Reads as write-series-reads
-use Rattle.bwmap.proofs.search.next_planned.Reads as next-planned-reads
 
--- src/lib.rt:67:11
 next-planned-requires : tie.Need-next-planned-requires
 next-planned-requires c κs = search needs
 
--- src/lib.rt:68:21
 enum-known-next : tie.Need-enum-known-next
 enum-known-next c = search needs
 
--- src/lib.rt:69:22
 sub-at : tie.Need-sub-at
 sub-at c =
     let a = c .before .before .before .before .before .before .before .before .args in
     omega (arith, sizes (a .own) (now (a .map)) (now (a .plan)) (a .w) _ _ (rw (c .before .before .next .given .1) at (c .before .before .before .before .next-planned .ensures)))
 
--- src/lib.rt:70:24
 sub-more : tie.Need-sub-more
 sub-more c =
     let a = c .before .before .before .before .before .before .before .before .before .args in
     omega (arith, sizes (a .own) (now (a .map)) (now (a .plan)) (a .w) _ _ (rw (c .before .before .before .next .given .1) at (c .before .before .before .before .before .next-planned .ensures)))
 
--- src/lib.rt:71:17
 allocation-at-requires : tie.Need-allocation-at-requires
 allocation-at-requires c κs =
     let a = c .before .before .before .before .before .before .before .before .before .args in
     omega (arith, sizes (a .own) (now (a .map)) (now (a .plan)) (a .w) _ _ (rw (c .before .before .before .next .given .1) at (c .before .before .before .before .before .next-planned .ensures)))
 
--- src/lib.rt:72:25
 mul-place : tie.Need-mul-place
 mul-place c = search needs
 
--- src/lib.rt:73:40
 add-write-series : tie.Need-add-write-series
 add-write-series c =
     let a = c .before .before .before .before .before .before .before .before .before .before .before .args in
     omega (arith, sizes (a .own) (now (a .map)) (now (a .plan)) (a .w) _ _ (rw (c .before .before .before .before .before .next .given .1) at (c .before .before .before .before .before .before .before .next-planned .ensures)))
 
--- src/lib.rt:73:13
 write-series-requires : tie.Need-write-series-requires
 write-series-requires c κs =
     let a = c .before .before .before .before .before .before .before .before .before .before .before .before .args in
     let t = sizes (a .own) (now (a .map)) (now (a .plan)) (a .w) _ _ (rw (c .before .before .before .before .before .before .next .given .1) at (c .before .before .before .before .before .before .before .before .next-planned .ensures)) in
     (omega (arith, t), omega (arith, t, c .before .before .before .before .before .before .before .before .before .before .before .before .pre .1, c .before .before .before .before .before .before .before .before .before .before .before .before .pre .2 .room))
 
--- src/lib.rt:76:39
 add-t15 : tie.Need-add-t15
 add-t15 c = search needs
 
--- src/lib.rt:76:26
 add-t18 : tie.Need-add-t18
 add-t18 c =
     let a = c .before .before .before .before .before .before .before .before .before .before .before .before .before .before .before .before .args in
     omega (arith, sizes (a .own) (now (a .map)) (now (a .plan)) (a .w) _ _ (rw (c .before .before .before .before .before .before .before .before .before .before .next .given .1) at (c .before .before .before .before .before .before .before .before .before .before .before .before .next-planned .ensures)), c .before .before .before .before .before .before .before .before .before .before .before .before .before .before .before .before .pre .2 .room)
 
--- src/lib.rt:77:40
 mark-requires : tie.Need-mark-requires
 mark-requires c κs = search needs
 
--- src/lib.rt:77:27
 add-t20 : tie.Need-add-t20
 add-t20 c =
     let a = c .before .before .before .before .before .before .before .before .before .before .before .before .before .before .before .before .before .before .args in
     omega (arith, sizes (a .own) (now (a .map)) (now (a .plan)) (a .w) _ _ (rw (c .before .before .before .before .before .before .before .before .before .before .before .before .next .given .1) at (c .before .before .before .before .before .before .before .before .before .before .before .before .before .before .next-planned .ensures)), c .before .before .before .before .before .before .before .before .before .before .before .before .before .before .before .before .before .before .pre .2 .sent, c .before .mark .ensures .1)
 
--- src/lib.rt:79:26
 add-t21 : tie.Need-add-t21
 add-t21 c =
     let a = c .before .before .before .before .before .before .before .before .before .before .before .before .before .before .before .before .before .before .before .args in
     omega (arith, sizes (a .own) (now (a .map)) (now (a .plan)) (a .w) _ _ (rw (c .before .before .before .before .before .before .before .before .before .before .before .before .before .next .given .1) at (c .before .before .before .before .before .before .before .before .before .before .before .before .before .before .before .next-planned .ensures)))
 
--- src/lib.rt:80:29
 add-t22 : tie.Need-add-t22
 add-t22 c =
     let a = c .before .before .before .before .before .before .before .before .before .before .before .before .before .before .before .before .before .before .before .before .args in
     omega (arith, sizes (a .own) (now (a .map)) (now (a .plan)) (a .w) _ _ (rw (c .before .before .before .before .before .before .before .before .before .before .before .before .before .before .next .given .1) at (c .before .before .before .before .before .before .before .before .before .before .before .before .before .before .before .before .next-planned .ensures)))
 
--- src/lib.rt:85:17
 enum-told : tie.Need-enum-told
 enum-told c = search needs
 
--- src/lib.rt:62:1
 same-length : tie.Need-same-length
 same-length c = search needs
 
--- src/lib.rt:62:1
 returns : tie.Need-returns
 returns c =
     let a = c .before .before .before .before .before .before .before .before .before .before .before .before .before .before .before .before .before .before .before .before .args in
@@ -106,7 +83,6 @@ returns c =
     let t = sizes (a .own) (now (a .map)) (now (a .plan)) (a .w) _ _ d in
     (record { few = omega (arith, t); room = omega (arith, t, s .room); sent = omega (arith, s .sent, c .before .before .before .mark .ensures .1); low = omega (arith, t) }, t .3, t .4, plan-next (a .own) (now (a .map)) (now (a .plan)) (a .w) _ _ d (c .before .before .before .before .before .before .before .before .before .before .allocation-at .result) (c .before .before .before .before .before .before .before .before .before .before .allocation-at .ensures) _ _ (c .before .before .before .before .before .before .before .write-series .ensures) (c .before .before .before .mark .ensures .0))
 
--- src/lib.rt:62:1
 returns-2 : tie.Need-returns-2
 returns-2 c =
     let a = c .before .before .before .before .before .before .args in

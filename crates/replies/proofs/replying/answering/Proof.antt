@@ -10,14 +10,11 @@ enum-told c = search needs
 enum-known-response : tie.Need-enum-known-response
 enum-known-response c = search needs
 
-sent-requires : tie.Need-sent-requires
-sent-requires c κs = search needs
-
 returns : tie.Need-returns
 returns c = rw (c .enum-told .given .1)
 
 returns-2 : tie.Need-returns-2
-returns-2 c = rw (c .before .before .response .given .1, c .sent .ensures)
+returns-2 c = rw (c .before .response .given .1)
 
 pub answering-spec : {M : Type 1} → statement M
-answering-spec = tie.close (tie.spec enum-told enum-known-response sent-requires returns returns-2)
+answering-spec = tie.close (tie.spec enum-told enum-known-response returns returns-2)

@@ -1,20 +1,19 @@
--- Read back as the laser reads it, the plan is the planned series, in map order.
+-- Read back as the laser reads it, a plan is its series, in order.
 -- Assumes nothing.
-use Prim.Native.Nat.{ℕ, suc, _+_, _*_, _/_, _%_, _<_}
-use mathlib.Core.Path.{_≡_, _∙_, refl, sym, ap, ap₂}
-use mathlib.Core.Bool.{Bool, true, false, cond}
-use mathlib.Core.List.{List, [], _∷_, _++_, append-assoc}
+use Prim.Native.Nat.{ℕ, _+_, _*_, _/_, _%_, _<_}
+use mathlib.Core.Path.{_≡_, _∙_, refl, ap, ap₂}
+use mathlib.Core.Bool.{Bool, true, false}
+use mathlib.Core.List.{List, [], _∷_, _++_}
 use native.Mathlib.Omega.{arith}
 use lib.Dec.{eqb}
 use lib.ListN.{length, take, drop}
 use lib.Seq.{take-at, drop-at}
 use Rattle.xgtc.specs.declared.allocation.Allocation.{Allocation}
-use Rattle.entries.specs.declared.Own.{Own}
-use Rattle.series.specs.Series.{Series, plannedOf}
-use Rattle.plan.specs.Records.{mark, burstFlags, headFlags, moreFlags, planRecord}
-use Rattle.bwmap.specs.Plan.{moreNumbers, seriesNumbers, numbers, records, written}
-use Rattle.bwmap.specs.Laser.{Grant, Sending, Record, recordsOf, flagged, opens, granted, joining, sending, sendings, laser, grantOf, grantsOf, burstOf, burstsOf}
-use Rattle.bwmap.proofs.Steps.{length-numbers}
+use Rattle.series.specs.Series.{Series}
+use Rattle.plan.specs.Records.{mark, burstFlags, headFlags, moreFlags}
+use Rattle.plan.specs.Plan.{moreNumbers, seriesNumbers, numbers, records, written}
+use Rattle.plan.specs.Laser.{Grant, Record, recordsOf, flagged, opens, granted, joining, sending, sendings, laser, grantOf, grantsOf, burstsOf}
+use Rattle.plan.proofs.Lengths.{length-numbers}
 
 -- ---- a flag is read as it was set
 
@@ -126,13 +125,11 @@ read-back (s ∷ l) =
 front : (l : List Series) (plan : List ℕ) → take (4 * records l) (written l plan) ≡ numbers l
 front l plan = take-at (numbers l) (drop (length (numbers l)) plan) (4 * records l) (length-numbers l)
 
--- what the laser sends by the records counted of a plan, whatever stood in it, is each planned series, in map order
-pub laser-obeys : (own : Own) (m : List ℕ) (carried : ℕ) (plan : List ℕ) → laser (records (plannedOf own m carried)) (written (plannedOf own m carried) plan) ≡ burstsOf (plannedOf own m carried)
-laser-obeys own m carried plan =
-    ap (λ (ns : List ℕ). sendings (recordsOf ns)) (front (plannedOf own m carried) plan) ∙ read-back (plannedOf own m carried)
+-- what the laser sends by the records counted of a plan, whatever stood in it, is each series, in order
+pub laser-obeys : (l : List Series) (plan : List ℕ) → laser (records l) (written l plan) ≡ burstsOf l
+laser-obeys l plan = ap (λ (ns : List ℕ). sendings (recordsOf ns)) (front l plan) ∙ read-back l
 
 -- past the records the plan keeps its content
-pub plan-kept : (own : Own) (m : List ℕ) (carried : ℕ) (plan : List ℕ) → drop (4 * records (plannedOf own m carried)) (written (plannedOf own m carried) plan) ≡ drop (4 * records (plannedOf own m carried)) plan
-plan-kept own m carried plan =
-    drop-at (numbers (plannedOf own m carried)) (drop (length (numbers (plannedOf own m carried))) plan) (4 * records (plannedOf own m carried)) (length-numbers (plannedOf own m carried))
-    ∙ ap (λ (n : ℕ). drop n plan) (length-numbers (plannedOf own m carried))
+pub plan-kept : (l : List Series) (plan : List ℕ) → drop (4 * records l) (written l plan) ≡ drop (4 * records l) plan
+plan-kept l plan =
+    drop-at (numbers l) (drop (length (numbers l)) plan) (4 * records l) (length-numbers l) ∙ ap (λ (n : ℕ). drop n plan) (length-numbers l)

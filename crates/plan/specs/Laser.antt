@@ -1,13 +1,14 @@
 -- How the laser reads a plan: from its records alone, and not from the map.
 -- Assumes nothing.
-use Prim.Native.Nat.{ℕ, _+_, _*_, _/_, _%_}
-use mathlib.Core.Bool.{Bool, true, false, cond}
+use Prim.Native.Nat.{ℕ, _*_, _/_, _%_}
+use mathlib.Core.Bool.{Bool, cond}
 use mathlib.Core.List.{List, [], _∷_}
 use lib.Dec.{eqb}
 use lib.ListN.{take}
 use Rattle.xgtc.specs.declared.allocation.Allocation.{Allocation}
-use Rattle.bwmap.specs.Limits.{numbersARecord}
+use Rattle.plan.specs.Limits.{numbersARecord}
 use Rattle.series.specs.Series.{Series}
+use Rattle.plan.specs.Records.{headMark, ploamuMark, dbruMark, fwiMark, profileWeight}
 
 -- what is sent to one Alloc-ID
 pub record Grant : Type 0 where
@@ -42,10 +43,10 @@ abbrev pub flagged : ℕ → Record → Bool
 flagged weight r = eqb (r .flags / weight % 2) 1
 
 unfoldable pub opens : Record → Bool
-opens r = flagged 1 r
+opens r = flagged headMark r
 
 unfoldable pub granted : Record → Grant
-granted r = record { alloc = r .alloc; dbru = flagged 4 r; words = r .words }
+granted r = record { alloc = r .alloc; dbru = flagged dbruMark r; words = r .words }
 
 -- the records up to the next head
 abbrev pub joining : List Record → List Grant
@@ -54,7 +55,7 @@ joining (r ∷ l) = cond (opens r) [] (granted r ∷ joining l)
 
 unfoldable pub sending : Record → List Record → Sending
 sending r l =
-    record { start = r .start; ploamu = flagged 2 r; fwi = flagged 8 r; profile = r .flags / 16; grants = granted r ∷ joining l }
+    record { start = r .start; ploamu = flagged ploamuMark r; fwi = flagged fwiMark r; profile = r .flags / profileWeight; grants = granted r ∷ joining l }
 
 -- each head opens a burst
 abbrev pub sendings : List Record → List Sending

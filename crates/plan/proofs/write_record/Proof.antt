@@ -1,11 +1,26 @@
--- `bwmap::records::put` meets its contract.
+-- `plan::write_record` meets its contract.
 -- Assumes nothing.
+use Prim.Native.Nat.{_+_}
 use native.Mathlib.Omega.{arith}
 use native.Mathlib.Numerals.{towards-suc}
-use lib.ListN.{length-set}
+use denote.Ref.{now}
+use lib.ListN.{length, length-set}
+use borrow.Author.Tests.{lt-leb, le-leb}
+use Rattle.plan.specs.Records.{placed}
 use borrow.Author.Needs.{needs}
-use Rattle.bwmap.proofs.records.put.Statement.{statement}
-use Rattle.bwmap.proofs.records.put.Tie as tie
+use Rattle.plan.proofs.write_record.Statement.{statement}
+use Rattle.plan.proofs.write_record.Tie as tie
+
+returns : tie.Need-returns
+unfolding placed
+returns c = rw (lt-leb (c .before .args .at + 4) (length (now (c .before .args .plan))) (omega (arith, c .if1 .taken)))
+
+sub-if2 : tie.Need-sub-if2
+sub-if2 c = search needs
+
+returns-2 : tie.Need-returns-2
+unfolding placed
+returns-2 c = rw (lt-leb (c .before .before .args .at + 4) (length (now (c .before .before .args .plan))) (omega (arith, c .before .if1 .left, c .if2 .taken)))
 
 mul-plan : tie.Need-mul-plan
 mul-plan c = search needs
@@ -43,13 +58,17 @@ slice-write-plan-4 c = simp length-set (omega arith)
 same-length : tie.Need-same-length
 same-length c = search needs
 
-returns : tie.Need-returns
-returns c = simp towards-suc
+returns-3 : tie.Need-returns-3
+unfolding placed
+returns-3 c = rw (le-leb (c .before .before .before .args .at + 4) (length (now (c .before .before .before .args .plan))) (omega (arith, c .before .before .if1 .left, c .before .if2 .left))) (simp towards-suc)
 
-pub put-spec : {M : Type 1} → statement M
-put-spec =
+pub write-record-spec : {M : Type 1} → statement M
+write-record-spec =
     tie.close
     (tie.spec
+    returns
+    sub-if2
+    returns-2
     mul-plan
     slice-write-plan
     add-plan
@@ -62,4 +81,4 @@ put-spec =
     mul-plan-4
     slice-write-plan-4
     same-length
-    returns)
+    returns-3)
