@@ -120,9 +120,9 @@ type-told type m e =
 
 -- an address that the code reads and compares
 pub told
-    : (to other : OnuId) (a b : OnuId) (r x : Bool) → to .0 ≡ a .0 → other ≡ b → r ≡ sameOnu to other → r ≡ x → sameOnu a b ≡ x
+    : (to other : OnuId) (a b : OnuId) (r x : Bool) → to ≡ a → other ≡ b → r ≡ sameOnu to other → r ≡ x → sameOnu a b ≡ x
 told to other a b r x e f g h =
-    ap (λ (n : ℕ). eqb n (b .0)) (sym e) ∙ ap (λ (o : OnuId). eqb (to .0) (o .0)) (sym f) ∙ sym g ∙ h
+    ap (λ (o : OnuId). sameOnu o b) (sym e) ∙ ap (sameOnu to) (sym f) ∙ sym g ∙ h
 
 -- ---- so an inert message does nothing
 

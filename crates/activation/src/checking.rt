@@ -25,7 +25,11 @@ fn by_usual(m: &[u8]) -> bool
     requires { ⌜ messageOctets ≤ length (now m) ⌝ }
     ensures { λ r. ⌜ r ≡ byUsual (now (m .entry)) ⌝ }
 {
-    integrity::by_default(Direction::Downstream, inert::address(m[0], m[1]), m[2])
+    integrity::by_default(
+        Direction::Downstream,
+        ploam::reading::address(m[0], m[1]),
+        m[2],
+    )
 }
 
 // Whether such a message acts in any state: to check one that is ignored anyway is in vain. In the order of the types:
@@ -48,7 +52,7 @@ fn joins(onu: OnuId, full: bool, usual: bool, m: &[u8]) -> bool
     if inert::is_inert(onu, full, m) {
         return false;
     }
-    let to = inert::address(m[0], m[1]);
+    let to = ploam::reading::address(m[0], m[1]);
     if !may_act(to.is(OnuId::broadcast()), m[2], m[4]) {
         return false;
     }

@@ -1,7 +1,7 @@
 // What of a frame's messages can do nothing, told by address and type alone. Most of a branch's messages are for other
 // stations: they cost this look, and neither the state nor a key is touched for them.
 ghost use mathlib.Core.Path.{_≡_};
-ghost use Prim.Native.Nat.{_+_, _-_, _*_, _/_, _%_, _≤_};
+ghost use Prim.Native.Nat.{_-_, _/_, _≤_};
 ghost use lib.ListN.{length};
 ghost use Rattle.ploam.specs.Layout.{messageOctets};
 ghost use Rattle.activation.specs.Inert.{fullOf, inert, pastInert};
@@ -10,17 +10,11 @@ use link::Queue;
 use ploam::DEACTIVATE_ONU_ID;
 use ploam::MESSAGE_OCTETS;
 
-pub(crate) fn address(high: u8, low: u8) -> OnuId
-    ensures { λ r. ⌜ r .0 ≡ (high * 256 + low) % 1024 ⌝ }
-{
-    OnuId((high as u16 * 256 + low as u16) % 1024)
-}
-
 pub(crate) fn is_inert(onu: OnuId, full: bool, m: &[u8]) -> bool
     requires { ⌜ messageOctets ≤ length (now m) ⌝ }
     ensures { λ r. ⌜ r ≡ inert onu full (now (m .entry)) ⌝ }
 {
-    let to = address(m[0], m[1]);
+    let to = ploam::reading::address(m[0], m[1]);
     if to.is(OnuId::broadcast()) {
         return false;
     }

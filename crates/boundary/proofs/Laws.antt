@@ -9,7 +9,7 @@ use lib.Seq.{take-length}
 use Rattle.framing.specs.Reads.{Found, fields, unreadable, short}
 use Rattle.framing.specs.Writes as writes
 use Rattle.framing.specs.Writes.{number}
-use Rattle.framing.specs.declared.octets.Written as framed
+use Rattle.framing.specs.declared.words.Written as framed
 use Rattle.station.specs.declared.Station.{Station}
 use Rattle.station.specs.declared.answers.Answer.the-variants.{Done}
 use Rattle.station.specs.Answers.{answerNumber}

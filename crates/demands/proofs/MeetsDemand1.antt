@@ -11,7 +11,7 @@ use Rattle.ids.specs.Ids.{managementPort}
 use Rattle.xgtc.specs.declared.hlend.Hlend.{Hlend}
 use Rattle.framing.specs.Reads.{Found, fields, unreadable, short}
 use Rattle.xgtc.specs.Reads.{readHlend}
-use Rattle.framing.specs.declared.octets.Written.the-variants.{Done as WriteDone, Refused as WriteRefused}
+use Rattle.framing.specs.declared.words.Written.the-variants.{Done as WriteDone, Refused as WriteRefused}
 use Rattle.framing.specs.Octets.{octets}
 use Rattle.framing.specs.Layouts.{xgemFits, xgemWord}
 use Rattle.xgtc.specs.Layouts.{hlendFits, hlendWord, allocationFits, allocationWord}

@@ -11,8 +11,8 @@ use lib.ListN.{length}
 use Rattle.xgtc.specs.declared.hlend.Hlend.{Hlend}
 use Rattle.xgtc.specs.declared.allocation.Allocation.{Allocation}
 use Rattle.framing.specs.declared.xgem.XgemHeader.{XgemHeader}
-use Rattle.framing.specs.declared.octets.Written.{Written}
-use Rattle.framing.specs.declared.octets.Written.the-variants.{Done as WriteDone, Refused}
+use Rattle.framing.specs.declared.words.Written.{Written}
+use Rattle.framing.specs.declared.words.Written.the-variants.{Done as WriteDone, Refused}
 use Rattle.framing.specs.Octets.{octets}
 use Rattle.framing.specs.Layouts.{xgemFits, xgemWord}
 use Rattle.xgtc.specs.Layouts.{hlendFits, hlendWord, allocationFits, allocationWord}

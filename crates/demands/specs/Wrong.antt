@@ -8,7 +8,7 @@ use Rattle.xgtc.specs.declared.hlend.Hlend.{Hlend}
 use Rattle.framing.specs.Reads.{Found, fields, unreadable, short}
 use Rattle.xgtc.specs.Reads.{readHlend}
 use Rattle.framing.specs.Writes as writing
-use Rattle.framing.specs.declared.octets.Written.the-variants as Written
+use Rattle.framing.specs.declared.words.Written.the-variants as Written
 use Rattle.station.specs.declared.Station.{Station}
 use Rattle.station.specs.declared.answers.Answer.the-variants.{StateOutOfRange}
 use Rattle.link.specs.Link.{noAllocs, withAllocs}

@@ -6,7 +6,7 @@ use mathlib.Core.List.{List}
 use Prim.Native.Nat.{ℕ}
 use Rattle.framing.specs.Reads.{Found, fields, unreadable, short, foundXgem}
 use Rattle.framing.specs.Writes.{Left}
-use Rattle.framing.specs.declared.octets.Written.{Written}
+use Rattle.framing.specs.declared.words.Written.{Written}
 use Rattle.framing.specs.declared.xgem.XgemHeader.{XgemHeader}
 use Rattle.framing.specs.declared.xgem.XgemRead.{XgemRead}
 use Rattle.framing.specs.declared.xgem.XgemRead.the-variants.{Fields as XgemFields, Unreadable as XgemUnreadable, Short as XgemShort}

@@ -11,11 +11,11 @@ use borrow.Rule.Slice.PartMut.{putMid}
 use lib.Dec.{eqb, ltb}
 use lib.ListN.{length, take, drop, replicate, length-append, length-drop, length-replicate, drop-of-length-le}
 use lib.Seq.{take-at, drop-at, take-all, drop-drop}
-use Rattle.framing.specs.Octets.{octets}
+use Rattle.octets.specs.Octets.{octets}
 use Rattle.framing.specs.Layouts.{payloadSize, xgemWord}
 use Rattle.framing.specs.Writes.{put, padding, xgemFrame}
 use Rattle.framing.specs.declared.xgem.XgemHeader.{XgemHeader}
-use Rattle.framing.proofs.Numbers.{octets-length}
+use Rattle.octets.proofs.Numbers.{octets-length}
 use Rattle.framing.proofs.Padding.{put-length}
 
 -- s in the part of a target behind p: the target holds both

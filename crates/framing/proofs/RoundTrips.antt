@@ -15,13 +15,13 @@ use Rattle.hec.specs.Writes.{protected}
 use Rattle.hec.proofs.Words.{mends, undamaged}
 use Rattle.hec.proofs.Nearest.{reading-reads}
 use Rattle.bch.proofs.Powers.{octet-power}
-use Rattle.framing.specs.Octets.{value, octets}
+use Rattle.octets.specs.Octets.{value, octets}
 use Rattle.framing.specs.Layouts.{xgemOf, xgemFits, xgemWord, payloadSize}
 use Rattle.framing.specs.Reads.{Found, fields, taken, readAs, readXgem}
 use Rattle.framing.specs.Writes.{Left, put, wrote, writeXgem, writeXgemFrame, carrying, padding, xgemFrame}
-use Rattle.framing.specs.declared.octets.Written.the-variants.{Done}
+use Rattle.framing.specs.declared.words.Written.the-variants.{Done}
 use Rattle.framing.specs.declared.xgem.XgemHeader.{XgemHeader}
-use Rattle.framing.proofs.Numbers.{Bytes, value-lt, value-octets, octets-length, octets-value}
+use Rattle.octets.proofs.Numbers.{Bytes, value-lt, value-octets, octets-length, octets-value}
 use Rattle.framing.proofs.Layouts.{xgem-true, xgem-back, xgem-again, xgem-fits}
 use Rattle.framing.proofs.Frames.{frame-length, payload-length, covers}
 

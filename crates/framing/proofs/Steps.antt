@@ -9,10 +9,10 @@ use borrow.Author.Tests.{le-leb, lt-leb}
 use lib.ListN.{length, take}
 use Rattle.hec.specs.Reads.{Reading}
 use Rattle.hec.specs.Writes.{protected}
-use Rattle.framing.specs.Octets.{value, octets}
+use Rattle.octets.specs.Octets.{value, octets}
 use Rattle.framing.specs.Reads.{Found, short, taken, readAs}
 use Rattle.framing.specs.Writes.{Left, put, wrote}
-use Rattle.framing.specs.declared.octets.Written.the-variants.{Done, Refused}
+use Rattle.framing.specs.declared.words.Written.the-variants.{Done, Refused}
 
 module _ {X : Type 0} (read : ℕ → Reading) (n : ℕ) (of : ℕ → X) (s : List ℕ) where
   pub read-short : length s < n → short ≡ readAs read n of s

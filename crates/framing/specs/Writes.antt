@@ -6,11 +6,11 @@ use Prim.Native.Nat.{ℕ, _+_, _-_}
 use lib.Dec.{leb}
 use lib.ListN.{length, drop, replicate}
 use Rattle.ids.specs.declared.PortId.{PortId}
-use Rattle.framing.specs.Octets.{octets}
+use Rattle.octets.specs.Octets.{octets}
 use Rattle.framing.specs.Layouts.{xgemFits, xgemWord, payloadSize}
 use Rattle.framing.specs.declared.xgem.XgemHeader.{XgemHeader}
-use Rattle.framing.specs.declared.octets.Written.{Written}
-use Rattle.framing.specs.declared.octets.Written.the-variants.{Done, Refused}
+use Rattle.framing.specs.declared.words.Written.{Written}
+use Rattle.framing.specs.declared.words.Written.the-variants.{Done, Refused}
 
 -- document 01's number for each answer: 11 where a value is too wide for its field or the target too short
 abbrev pub number : Written → ℕ

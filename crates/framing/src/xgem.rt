@@ -1,6 +1,6 @@
 // The XGEM frame: header, payload and padding (clause 9.1).
-use super::octets;
-use super::octets::Written;
+use super::words;
+use super::words::Written;
 use hec::Reading64;
 use hec::Word64;
 use ids::PortId;
@@ -60,7 +60,7 @@ impl XgemHeader {
         let port = self.port;
         let sized = self.pli as u64 * 4 + self.key as u64;
         let named = (sized * 0x1_0000 + port.0 as u64) * 0x4_0000 + self.options as u64;
-        named * 2 + octets::bit(self.last)
+        named * 2 + words::bit(self.last)
     }
 }
 
@@ -93,14 +93,14 @@ pub fn read_xgem(s: &[u8]) -> XgemRead
     if s.len() < 8 {
         return XgemRead::Short;
     }
-    found(hec::read64_by_octets(octets::word64(s)))
+    found(hec::read64_by_octets(words::word64(s)))
 }
 
 // The XGEM header of the fields given, at the start of a target.
 pub fn write_xgem(x: XgemHeader, target: &mut [u8]) -> Written
     ensures { λ r. ⌜ record { answer = r; target = now (target .exit) } ≡ writeXgem x (now (target .entry)) ⌝ }
 {
-    octets::write64(x.fits(), x.data_bits(), target)
+    words::write64(x.fits(), x.data_bits(), target)
 }
 
 fn pad(target: &mut [u8], count: usize)
@@ -142,7 +142,7 @@ pub fn write_xgem_frame(x: XgemHeader, sdu: &[u8], target: &mut [u8]) -> Written
     if target.len() < 8 + size {
         return Written::Refused;
     }
-    octets::put64(target, hec::write64(header.data_bits()).bits());
+    words::put64(target, hec::write64(header.data_bits()).bits());
     put_payload(sdu, size, &mut target[8..]);
     Written::Done
 }

@@ -12,10 +12,12 @@ use Rattle.station.specs.Station.{powerOn}
 use Rattle.layout.specs.declared.StateRead.{StateRead}
 use Rattle.layout.specs.declared.Standing.{Standing}
 use Rattle.layout.specs.declared.Standing.the-variants.{Held, Unreadable, Short}
-use Rattle.layout.specs.Layout.{stateBytes, encoded, shown, readOf}
+use Rattle.station.specs.Limits.{serialOctets, registrationOctets}
+use Rattle.layout.specs.Offsets.{stateBytes}
+use Rattle.layout.specs.Layout.{encoded, shown, readOf}
 
 module _ (b : List ℕ) (s : Station) where
-  pub read-short : length b < stateBytes → s ≡ powerOn (replicate 8 0) (replicate 36 0) → _≡_ {A = StateRead} (record { standing = Short; station = s }) (readOf b)
+  pub read-short : length b < stateBytes → s ≡ powerOn (replicate serialOctets 0) (replicate registrationOctets 0) → _≡_ {A = StateRead} (record { standing = Short; station = s }) (readOf b)
   unfolding readOf
   read-short h e = rw (lt-leb stateBytes (length b) h, e)
 

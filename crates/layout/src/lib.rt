@@ -1,6 +1,7 @@
 // A station's state as octets at fixed offsets in a buffer that the caller lends: each state has exactly one byte form.
 mod known;
 mod numbers;
+mod offsets;
 mod reading;
 mod writing;
 
@@ -8,7 +9,7 @@ ghost use mathlib.Core.Path.{_≡_};
 ghost use Rattle.layout.specs.Layout.{readOf, stored};
 use station::Station;
 
-pub const STATE_BYTES: usize = 208;
+pub const STATE_BYTES: usize = offsets::STATE_BYTES;
 
 // What stands in a buffer: a state, octets that are no state's, or too few.
 pub enum Standing {

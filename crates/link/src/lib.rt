@@ -20,6 +20,9 @@ pub const ADDED_ALLOCS: usize = 16;
 
 pub const MOST_OWED: usize = 8;
 
+// Octets of a key, 15.6.2.
+pub const KEY_OCTETS: usize = 16;
+
 // What an upstream message answers.
 pub enum Response {
     Registration,

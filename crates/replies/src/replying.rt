@@ -1,7 +1,5 @@
 // What a planned PLOAMu burst sends, and what is then no longer owed.
 ghost use mathlib.Core.Path.{_≡_};
-ghost use Prim.Native.Nat.{_+_, _*_};
-ghost use Rattle.ploam.specs.Reading.{serialAt};
 ghost use Rattle.replies.specs.Replying.{answering, inOperation, replyOf, afterReply, Replies, Leaves};
 use ids::OnuId;
 use link::Owed;
@@ -37,21 +35,6 @@ fn in_operation(onu: OnuId, owed: Queue) -> UpstreamMessage
     answering(onu, owed.oldest())
 }
 
-fn join(a: u8, b: u8, c: u8, d: u8) -> u32
-    ensures { λ r. ⌜ r ≡ (a * 256 + b) * 65536 + (c * 256 + d) ⌝ }
-{
-    (a as u32 * 256 + b as u32) * 65536 + (c as u32 * 256 + d as u32)
-}
-
-fn own_serial(octets: [u8; 8]) -> ploam::SerialNumber
-    ensures { λ r. ⌜ r ≡ serialAt octets 0 ⌝ }
-{
-    ploam::SerialNumber {
-        vendor: join(octets[0], octets[1], octets[2], octets[3]),
-        vssn: join(octets[4], octets[5], octets[6], octets[7]),
-    }
-}
-
 pub fn reply_of(s: Station, delay: u32) -> Reply
     ensures { λ r. ⌜ Replies s delay r ⌝ }
 {
@@ -63,7 +46,7 @@ pub fn reply_of(s: Station, delay: u32) -> Reply
     match a {
         Activation::Initial => Reply::Silent,
         Activation::SerialNumber => Reply::Says(UpstreamMessage::SerialNumberOnu(
-            own_serial(octets),
+            ploam::reading::serial_number(octets),
             delay,
         )),
         Activation::Ranging(_) => Reply::Says(UpstreamMessage::Registration(onu, 0)),

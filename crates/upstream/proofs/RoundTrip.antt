@@ -14,7 +14,9 @@ use Rattle.ids.specs.declared.OnuId.{OnuId}
 use Rattle.aes.specs.Words.{wordsOf, Octets}
 use Rattle.cmac.specs.Tags.{preparedBy, mac64By}
 use Rattle.cmac.proofs.Macs.{mac64-prepared}
-use Rattle.ploam.specs.Layout.{messageOctets, coveredOctets, addressOf, typeOf, seqNoOf}
+use Rattle.octets.specs.Octets.{value, octets}
+use Rattle.octets.proofs.Numbers.{value-octets}
+use Rattle.ploam.specs.Layout.{messageOctets, coveredOctets, addresses, addressOf, typeOf, seqNoOf}
 use Rattle.integrity.specs.Integrity.{covered, micOf, micRight, defaultKey, byDefault, keyFor}
 use Rattle.integrity.specs.declared.Direction.the-variants.{Upstream}
 use Rattle.ploam.specs.declared.SerialNumber.{SerialNumber}
@@ -53,21 +55,13 @@ narrow (SerialNumberOnu serial delay) n = omega arith
 narrow (Registration onu seq) n = n
 narrow (Acknowledgement onu seq code) n = n
 
-sent-onu : (onu : OnuId) → onu .0 < 1024 → _≡_ {A = OnuId} (record { 0 = (onu .0 / 256 % 256 * 256 + onu .0 % 256) % 1024 }) onu
+sent-onu : (onu : OnuId) → onu .0 < addresses → _≡_ {A = OnuId} (record { 0 = value (octets 2 (onu .0)) % addresses }) onu
 sent-onu onu h =
-    let e : (onu .0 / 256 % 256 * 256 + onu .0 % 256) % 1024 ≡ onu .0 = omega arith in
+    let e : value (octets 2 (onu .0)) % addresses ≡ onu .0 = omega (arith, value-octets 2 (onu .0) (omega arith)) in
     ap (λ (n : ℕ). record { 0 = n }) e
 
-number : (n : ℕ) → n < 2 ^ 32
-    → (n / 16777216 % 256 * 256 + n / 65536 % 256) * 65536 + (n / 256 % 256 * 256 + n % 256) ≡ n
-number n h =
-    let p : n / 256 / 256 ≡ n / 65536 = omega arith in
-    let q : n / 65536 / 256 ≡ n / 16777216 = omega arith in
-    let r : n / 16777216 % 256 ≡ n / 16777216 = omega arith in
-    let s : n / 65536 % 256 + n / 16777216 * 256 ≡ n / 65536 = omega arith in
-    let u : n / 256 % 256 + n / 65536 * 256 ≡ n / 256 = omega arith in
-    let v : n % 256 + n / 256 * 256 ≡ n = omega arith in
-    omega arith
+number : (n : ℕ) → n < 2 ^ 32 → value (octets 4 n) ≡ n
+number n h = value-octets 4 n h
 
 cut : (b : Bool) (delay : ℕ) → ltb longestDelay delay ≡ b → cond b longestDelay delay < 2 ^ 32
 cut true delay e = omega arith

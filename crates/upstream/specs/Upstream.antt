@@ -7,6 +7,7 @@ use lib.ListN.{length, take, drop, replicate}
 use lib.Dec.{eqb, leb, ltb}
 use Rattle.ids.specs.Ids.{broadcastOnu}
 use Rattle.ids.specs.declared.OnuId.{OnuId}
+use Rattle.octets.specs.Octets.{octets}
 use Rattle.ploam.specs.Layout.{messageOctets, octet, number32, addressOf, typeOf, seqNoOf}
 use Rattle.ploam.specs.Layout.{serialNumberOnu, registration, acknowledgement}
 use Rattle.ploam.specs.Reading.{serialFrom}
@@ -24,12 +25,6 @@ longestDelay = 119439
 
 abbrev pub capped : ℕ → ℕ
 capped delay = cond (ltb longestDelay delay) longestDelay delay
-
-abbrev pub octets16 : ℕ → List ℕ
-octets16 n = n / 256 % 256 ∷ n % 256 ∷ []
-
-abbrev pub octets32 : ℕ → List ℕ
-octets32 n = n / 16777216 % 256 ∷ n / 65536 % 256 ∷ n / 256 % 256 ∷ n % 256 ∷ []
 
 abbrev pub upstreamAddress : UpstreamMessage → OnuId
 upstreamAddress (SerialNumberOnu serial delay) = broadcastOnu
@@ -50,14 +45,14 @@ upstreamSeqNo (Acknowledgement onu seq code) = seq
 -- octets 5 to 40, with the Registration ID of 36 octets
 abbrev pub upstreamContent : UpstreamMessage → List ℕ → List ℕ
 upstreamContent (SerialNumberOnu serial delay) id =
-    octets32 (serial .vendor) ++ octets32 (serial .vssn) ++ octets32 (capped delay) ++ replicate 24 0
+    octets 4 (serial .vendor) ++ octets 4 (serial .vssn) ++ octets 4 (capped delay) ++ replicate 24 0
 upstreamContent (Registration onu seq) id = id
 upstreamContent (Acknowledgement onu seq code) id = completionCode code ∷ replicate 35 0
 
 -- octets 1 to 40
 unfoldable pub upstreamOctets : UpstreamMessage → List ℕ → List ℕ
 upstreamOctets message id =
-    octets16 (upstreamAddress message .0) ++ upstreamType message ∷ upstreamSeqNo message ∷ upstreamContent message id
+    octets 2 (upstreamAddress message .0) ++ upstreamType message ∷ upstreamSeqNo message ∷ upstreamContent message id
 
 -- the ONU-ID field has ten bits
 abbrev pub fitting : UpstreamMessage → Bool

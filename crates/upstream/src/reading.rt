@@ -1,49 +1,16 @@
 // Reading an upstream message, as the other end of the fibre does.
 ghost use mathlib.Core.Path.{_≡_};
-ghost use Prim.Native.Nat.{_+_, _≤_};
+ghost use Prim.Native.Nat.{_≤_};
 ghost use lib.ListN.{length};
-ghost use Rattle.ploam.specs.Layout.{messageOctets, at16, at32, addressOf, typeOf};
-ghost use Rattle.ploam.specs.Reading.{serialAt};
+ghost use Rattle.ploam.specs.Layout.{messageOctets, typeOf};
 ghost use Rattle.upstream.specs.Upstream.{acknowledged, heardAs, heard, registrationIdOf};
 use super::Heard;
 use super::UpstreamMessage;
 use ids::OnuId;
 use ploam::Completion;
 use ploam::MESSAGE_OCTETS;
-use ploam::SerialNumber;
-use ploam::reading::join16;
-use ploam::reading::join32;
-
-fn number16(m: &[u8], i: usize) -> u16
-    requires { ⌜ i + 2 ≤ length (now m) ⌝ }
-    ensures { λ r. ⌜ r ≡ at16 (now (m .entry)) i ⌝ }
-{
-    join16(m[i], m[i + 1])
-}
-
-fn number32(m: &[u8], i: usize) -> u32
-    requires { ⌜ i + 4 ≤ length (now m) ⌝ }
-    ensures { λ r. ⌜ r ≡ at32 (now (m .entry)) i ⌝ }
-{
-    join32(number16(m, i), number16(m, i + 2))
-}
-
-fn serial_number(m: &[u8], i: usize) -> SerialNumber
-    requires { ⌜ i + 8 ≤ length (now m) ⌝ }
-    ensures { λ r. ⌜ r ≡ serialAt (now (m .entry)) i ⌝ }
-{
-    SerialNumber {
-        vendor: number32(m, i),
-        vssn: number32(m, i + 4),
-    }
-}
-
-fn address(m: &[u8]) -> OnuId
-    requires { ⌜ messageOctets ≤ length (now m) ⌝ }
-    ensures { λ r. ⌜ r ≡ addressOf (now (m .entry)) ⌝ }
-{
-    OnuId(number16(m, 0) % 1024)
-}
+use ploam::reading::address;
+use ploam::reading::serial_number;
 
 fn acknowledged(onu: OnuId, seq: u8, code: u8) -> Heard
     ensures { λ r. ⌜ r ≡ acknowledged onu seq code ⌝ }
@@ -68,9 +35,12 @@ fn content(m: &[u8]) -> Heard
 {
     let kind = m[2];
     match kind {
-        0x01 => Heard::Said(UpstreamMessage::SerialNumberOnu(serial_number(m, 4), number32(m, 12))),
-        0x02 => Heard::Said(UpstreamMessage::Registration(address(m), m[3])),
-        0x09 => acknowledged(address(m), m[3], m[4]),
+        0x01 => Heard::Said(UpstreamMessage::SerialNumberOnu(
+            serial_number([m[4], m[5], m[6], m[7], m[8], m[9], m[10], m[11]]),
+            octets::join32(m[12], m[13], m[14], m[15]),
+        )),
+        0x02 => Heard::Said(UpstreamMessage::Registration(address(m[0], m[1]), m[3])),
+        0x09 => acknowledged(address(m[0], m[1]), m[3], m[4]),
         _ => Heard::Other,
     }
 }

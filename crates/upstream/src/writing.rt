@@ -6,8 +6,9 @@ ghost use Prim.Native.Nat.{_+_, _≤_};
 ghost use lib.ListN.{length, replicate};
 ghost use lib.Seq.{paste};
 ghost use Rattle.aes.specs.Words.{Octets};
+ghost use Rattle.octets.specs.Octets.{octets};
 ghost use Rattle.ploam.specs.Layout.{coveredOctets, typeOf, serialNumberOnu, registration, acknowledgement};
-ghost use Rattle.upstream.specs.Upstream.{capped, octets16, octets32};
+ghost use Rattle.upstream.specs.Upstream.{capped};
 ghost use Rattle.upstream.specs.Upstream.{upstreamAddress, upstreamOctets};
 ghost use Rattle.upstream.specs.Writing.{laidBy, writtenBy, Leaves};
 use super::UpstreamMessage;
@@ -41,25 +42,29 @@ fn capped(delay: u32) -> u32
 }
 
 fn serial_octets(serial: SerialNumber, delay: u32) -> [u8; 40]
-    ensures { λ r. ⌜ r ≡ octets16 1023 ++ serialNumberOnu ∷ 0 ∷ (octets32 (serial .vendor) ++ octets32 (serial .vssn) ++ octets32 delay ++ replicate 24 0) ⌝ }
+    ensures { λ r. ⌜ r ≡ octets 2 1023 ++ serialNumberOnu ∷ 0 ∷ (octets 4 (serial .vendor) ++ octets 4 (serial .vssn) ++ octets 4 delay ++ replicate 24 0) ⌝ }
 {
+    let onu = octets::split16(WIDEST_ONU);
+    let vendor = octets::split32(serial.vendor);
+    let vssn = octets::split32(serial.vssn);
+    let late = octets::split32(delay);
     [
-        (WIDEST_ONU / 256 % 256) as u8,
-        (WIDEST_ONU % 256) as u8,
+        onu[0],
+        onu[1],
         SERIAL_NUMBER_ONU,
         0,
-        (serial.vendor / 16777216 % 256) as u8,
-        (serial.vendor / 65536 % 256) as u8,
-        (serial.vendor / 256 % 256) as u8,
-        (serial.vendor % 256) as u8,
-        (serial.vssn / 16777216 % 256) as u8,
-        (serial.vssn / 65536 % 256) as u8,
-        (serial.vssn / 256 % 256) as u8,
-        (serial.vssn % 256) as u8,
-        (delay / 16777216 % 256) as u8,
-        (delay / 65536 % 256) as u8,
-        (delay / 256 % 256) as u8,
-        (delay % 256) as u8,
+        vendor[0],
+        vendor[1],
+        vendor[2],
+        vendor[3],
+        vssn[0],
+        vssn[1],
+        vssn[2],
+        vssn[3],
+        late[0],
+        late[1],
+        late[2],
+        late[3],
         0,
         0,
         0,
@@ -88,11 +93,12 @@ fn serial_octets(serial: SerialNumber, delay: u32) -> [u8; 40]
 }
 
 fn registration_octets(onu: OnuId, seq: u8, id: [u8; 36]) -> [u8; 40]
-    ensures { λ r. ⌜ r ≡ octets16 (onu .0) ++ registration ∷ seq ∷ id ⌝ }
+    ensures { λ r. ⌜ r ≡ octets 2 (onu .0) ++ registration ∷ seq ∷ id ⌝ }
 {
     let mut b = [0u8; 40];
-    b[0] = (onu.0 / 256 % 256) as u8;
-    b[1] = (onu.0 % 256) as u8;
+    let address = octets::split16(onu.0);
+    b[0] = address[0];
+    b[1] = address[1];
     b[2] = REGISTRATION;
     b[3] = seq;
     let mut i: usize = 0;
@@ -104,11 +110,12 @@ fn registration_octets(onu: OnuId, seq: u8, id: [u8; 36]) -> [u8; 40]
 }
 
 fn acknowledgement_octets(onu: OnuId, seq: u8, code: u8) -> [u8; 40]
-    ensures { λ r. ⌜ r ≡ octets16 (onu .0) ++ acknowledgement ∷ seq ∷ code ∷ replicate 35 0 ⌝ }
+    ensures { λ r. ⌜ r ≡ octets 2 (onu .0) ++ acknowledgement ∷ seq ∷ code ∷ replicate 35 0 ⌝ }
 {
+    let address = octets::split16(onu.0);
     [
-        (onu.0 / 256 % 256) as u8,
-        (onu.0 % 256) as u8,
+        address[0],
+        address[1],
         ACKNOWLEDGEMENT,
         seq,
         code,
@@ -150,7 +157,7 @@ fn acknowledgement_octets(onu: OnuId, seq: u8, code: u8) -> [u8; 40]
     ]
 }
 
-fn octets(message: UpstreamMessage, id: [u8; 36]) -> [u8; 40]
+fn upstream_octets(message: UpstreamMessage, id: [u8; 36]) -> [u8; 40]
     ensures { λ r. ⌜ r ≡ upstreamOctets message id ⌝ }
 {
     match message {
@@ -222,7 +229,7 @@ pub fn write(
 ) -> Written
     ensures { λ r. ⌜ Leaves (writtenBy usual installed message id (now (target .entry))) (upstreamOctets message id) (record { answer = r; target = now (target .exit) }) ⌝ }
 {
-    let b = octets(message, id);
+    let b = upstream_octets(message, id);
     let onu = sender(message);
     let fits = onu.0 <= WIDEST_ONU;
     if integrity::by_default(Direction::Upstream, onu, kind(&b)) {

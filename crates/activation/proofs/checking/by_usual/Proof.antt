@@ -1,7 +1,7 @@
 -- `activation::checking::by_usual` meets its contract.
 -- Assumes nothing.
 use mathlib.Core.Path.{_∙_, ap}
-use Prim.Native.Nat.{ℕ}
+use Rattle.ids.specs.declared.OnuId.{OnuId}
 use denote.Ref.{now}
 use Rattle.ploam.specs.Layout.{typeOf}
 use Rattle.integrity.specs.Integrity.{byDefault}
@@ -26,7 +26,7 @@ by-default-requires : tie.Need-by-default-requires
 by-default-requires c κs = search needs
 
 returns : tie.Need-returns
-returns c = c .by-default .ensures ∙ ap (λ (n : ℕ). byDefault Downstream (record { 0 = n }) (typeOf (now (c .before .before .before .before .before .before .args .m)))) (c .before .before .address .ensures)
+returns c = c .by-default .ensures ∙ ap (λ (a : OnuId). byDefault Downstream a (typeOf (now (c .before .before .before .before .before .before .args .m)))) (c .before .before .address .ensures)
 
 pub by-usual-spec : {M : Type 1} → statement M
 by-usual-spec =

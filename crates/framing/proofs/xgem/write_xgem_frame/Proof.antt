@@ -11,10 +11,10 @@ use borrow.Rule.Slice.PartMut.{putMid}
 use lib.ListN.{length, take, drop, replicate, length-take, length-drop}
 use Rattle.hec.specs.Writes.{Written, protected}
 use Rattle.hec.proofs.Protected.{is-protected}
-use Rattle.framing.specs.Octets.{octets}
+use Rattle.octets.specs.Octets.{octets}
 use Rattle.framing.specs.Layouts.{xgemFits, xgemWord, xgemBits, payloadSize}
 use Rattle.framing.specs.Writes.{carrying, xgemFrame, padding, put}
-use Rattle.framing.proofs.Numbers.{octets-length}
+use Rattle.octets.proofs.Numbers.{octets-length}
 use Rattle.framing.proofs.Layouts.{xgem-lt}
 use Rattle.framing.proofs.Padding.{put-length}
 use Rattle.framing.proofs.Frames.{put-behind, covers, size-le, frame-length, payload-length}

@@ -11,8 +11,8 @@ enum-told c = search needs
 enum-told-2 : tie.Need-enum-told-2
 enum-told-2 c = search needs
 
-own-serial-requires : tie.Need-own-serial-requires
-own-serial-requires c κs = search needs
+serial-number-requires : tie.Need-serial-number-requires
+serial-number-requires c κs = search needs
 
 enum-told-3 : tie.Need-enum-told-3
 enum-told-3 c = search needs
@@ -35,7 +35,7 @@ returns c = rw (c .enum-told .given .1)
 
 returns-2 : tie.Need-returns-2
 unfolding replyOf
-returns-2 c = rw (c .before .enum-told2 .given .1, c .own-serial .ensures)
+returns-2 c = rw (c .before .enum-told2 .given .1, c .serial-number .ensures)
 
 returns-3 : tie.Need-returns-3
 unfolding replyOf
@@ -59,7 +59,7 @@ reply-of-spec =
     (tie.spec
     enum-told
     enum-told-2
-    own-serial-requires
+    serial-number-requires
     enum-told-3
     enum-told-4
     in-operation-requires

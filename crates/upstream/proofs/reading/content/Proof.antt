@@ -17,17 +17,65 @@ use Rattle.upstream.proofs.reading.content.Tie as tie
 shared-slice-read-kind : tie.Need-shared-slice-read-kind
 shared-slice-read-kind c = search needs
 
+shared-slice-read-t8 : tie.Need-shared-slice-read-t8
+shared-slice-read-t8 c = search needs
+
+shared-slice-read-t10 : tie.Need-shared-slice-read-t10
+shared-slice-read-t10 c = search needs
+
+shared-slice-read-t12 : tie.Need-shared-slice-read-t12
+shared-slice-read-t12 c = search needs
+
+shared-slice-read-t14 : tie.Need-shared-slice-read-t14
+shared-slice-read-t14 c = search needs
+
+shared-slice-read-t16 : tie.Need-shared-slice-read-t16
+shared-slice-read-t16 c = search needs
+
+shared-slice-read-t18 : tie.Need-shared-slice-read-t18
+shared-slice-read-t18 c = search needs
+
+shared-slice-read-t20 : tie.Need-shared-slice-read-t20
+shared-slice-read-t20 c = search needs
+
+shared-slice-read-t22 : tie.Need-shared-slice-read-t22
+shared-slice-read-t22 c = search needs
+
 serial-number-requires : tie.Need-serial-number-requires
 serial-number-requires c κs = search needs
 
-number32-requires : tie.Need-number32-requires
-number32-requires c κs = search needs
+shared-slice-read-join32 : tie.Need-shared-slice-read-join32
+shared-slice-read-join32 c = search needs
+
+shared-slice-read-join32-2 : tie.Need-shared-slice-read-join32-2
+shared-slice-read-join32-2 c = search needs
+
+shared-slice-read-join32-3 : tie.Need-shared-slice-read-join32-3
+shared-slice-read-join32-3 c = search needs
+
+shared-slice-read-join32-4 : tie.Need-shared-slice-read-join32-4
+shared-slice-read-join32-4 c = search needs
+
+join32-requires : tie.Need-join32-requires
+join32-requires c κs = search needs
+
+shared-slice-read-address : tie.Need-shared-slice-read-address
+shared-slice-read-address c = search needs
+
+shared-slice-read-address-2 : tie.Need-shared-slice-read-address-2
+shared-slice-read-address-2 c = search needs
 
 address-requires : tie.Need-address-requires
 address-requires c κs = search needs
 
-shared-slice-read-t11 : tie.Need-shared-slice-read-t11
-shared-slice-read-t11 c = search needs
+shared-slice-read-t40 : tie.Need-shared-slice-read-t40
+shared-slice-read-t40 c = search needs
+
+shared-slice-read-address-3 : tie.Need-shared-slice-read-address-3
+shared-slice-read-address-3 c = search needs
+
+shared-slice-read-address-4 : tie.Need-shared-slice-read-address-4
+shared-slice-read-address-4 c = search needs
 
 address-requires-2 : tie.Need-address-requires-2
 address-requires-2 c κs = search needs
@@ -44,26 +92,23 @@ acknowledged-requires c κs = search needs
 returns : tie.Need-returns
 unfolding heardAs
 returns c =
-    let at = c .before .before in
-    ap₂ (λ (s : SerialNumber) (d : ℕ). Said (SerialNumberOnu s d)) (c .before .serial-number .ensures) (c .number32 .ensures)
-    ∙ sym (ap (λ (k : ℕ). heardAs k (now (at .before .before .before .args .m))) (at .match .keys1))
+    ap₂ (λ (s : SerialNumber) (d : ℕ). Said (SerialNumberOnu s d)) (c .before .before .before .before .before .serial-number .ensures) (c .join32 .ensures)
+    ∙ sym (ap (λ (k : ℕ). heardAs k (now (c .before .before .before .before .before .before .before .before .before .before .before .before .before .before .before .before .before .args .m))) (c .before .before .before .before .before .before .before .before .before .before .before .before .before .before .match .keys1))
 
 returns-2 : tie.Need-returns-2
 unfolding heardAs
 returns-2 c =
-    let at = c .before .before in
-    let m = now (at .before .before .before .args .m) in
+    let m = now (c .before .before .before .before .before .before .before .args .m) in
     ap (λ (o : OnuId). Said (Registration o (seqNoOf m))) (c .before .address .ensures)
-    ∙ sym (ap (λ (k : ℕ). heardAs k m) (at .match .keys2))
+    ∙ sym (ap (λ (k : ℕ). heardAs k m) (c .before .before .before .before .match .keys2))
 
 returns-3 : tie.Need-returns-3
 unfolding heardAs
 returns-3 c =
-    let at = c .before .before .before .before in
-    let m = now (at .before .before .before .args .m) in
+    let m = now (c .before .before .before .before .before .before .before .before .before .args .m) in
     c .acknowledged .ensures
     ∙ ap (λ (o : OnuId). acknowledged o (seqNoOf m) (octet m 5)) (c .before .before .before .address2 .ensures)
-    ∙ sym (ap (λ (k : ℕ). heardAs k m) (at .match .keys3))
+    ∙ sym (ap (λ (k : ℕ). heardAs k m) (c .before .before .before .before .before .before .match .keys3))
 
 returns-4 : tie.Need-returns-4
 unfolding heardAs
@@ -76,10 +121,26 @@ content-spec =
     tie.close
     (tie.spec
     shared-slice-read-kind
+    shared-slice-read-t8
+    shared-slice-read-t10
+    shared-slice-read-t12
+    shared-slice-read-t14
+    shared-slice-read-t16
+    shared-slice-read-t18
+    shared-slice-read-t20
+    shared-slice-read-t22
     serial-number-requires
-    number32-requires
+    shared-slice-read-join32
+    shared-slice-read-join32-2
+    shared-slice-read-join32-3
+    shared-slice-read-join32-4
+    join32-requires
+    shared-slice-read-address
+    shared-slice-read-address-2
     address-requires
-    shared-slice-read-t11
+    shared-slice-read-t40
+    shared-slice-read-address-3
+    shared-slice-read-address-4
     address-requires-2
     shared-slice-read-acknowledged
     shared-slice-read-acknowledged-2

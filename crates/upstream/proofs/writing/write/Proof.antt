@@ -12,8 +12,8 @@ use borrow.Author.Needs.{needs}
 use Rattle.upstream.proofs.writing.write.Statement.{statement}
 use Rattle.upstream.proofs.writing.write.Tie as tie
 
-octets-requires : tie.Need-octets-requires
-octets-requires c κs = search needs
+upstream-octets-requires : tie.Need-upstream-octets-requires
+upstream-octets-requires c κs = search needs
 
 sender-requires : tie.Need-sender-requires
 sender-requires c κs = search needs
@@ -39,7 +39,7 @@ same-length c = search needs
 returns : tie.Need-returns
 returns c =
     let args = c .before .before .before .before .before .before .before .before .before .before .before .before .before .args in
-    let b = c .before .before .before .before .before .before .before .before .before .before .before .octets in
+    let b = c .before .before .before .before .before .before .before .before .before .before .before .upstream-octets in
     let onu = c .before .before .before .before .before .before .before .before .before .before .sender in
     let kind = c .before .before .before .before .before .before .before .kind in
     let chosen = c .before .before .before .before .before in
@@ -59,7 +59,7 @@ same-length-2 c = search needs
 returns-2 : tie.Need-returns-2
 returns-2 c =
     let args = c .before .before .before .before .before .before .before .before .before .before .before .before .before .args in
-    let b = c .before .before .before .before .before .before .before .before .before .before .before .octets in
+    let b = c .before .before .before .before .before .before .before .before .before .before .before .upstream-octets in
     let onu = c .before .before .before .before .before .before .before .before .before .before .sender in
     let kind = c .before .before .before .before .before .before .before .kind in
     let chosen = c .before .before .before .before .before in
@@ -77,7 +77,7 @@ pub write-spec : {M : Type 1} → statement M
 write-spec =
     tie.close
     (tie.spec
-    octets-requires
+    upstream-octets-requires
     sender-requires
     slice-aggregate-kind
     kind-requires

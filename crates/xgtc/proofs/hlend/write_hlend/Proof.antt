@@ -5,7 +5,7 @@ use mathlib.Core.Path.{ap, sym, _∙_}
 use mathlib.Core.Bool.{Bool}
 use Prim.Native.Nat.{ℕ, _+_, _*_, _%_, _^_}
 use Rattle.hec.specs.Writes.{protected}
-use Rattle.framing.specs.Octets.{octets}
+use Rattle.octets.specs.Octets.{octets}
 use Rattle.framing.specs.Writes.{wrote}
 use Rattle.framing.specs.Layouts.{behind}
 use Rattle.xgtc.specs.Layouts.{hlendFits}
