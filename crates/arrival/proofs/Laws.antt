@@ -27,12 +27,13 @@ use Rattle.ploam.specs.Layout.{messageOctets}
 use Rattle.entries.specs.declared.Own.{Own}
 use Rattle.bwmap.specs.declared.Answer as planning
 use Rattle.bwmap.specs.declared.Plan.{Plan}
-use Rattle.bwmap.specs.Limits.{planNumbers}
+use Rattle.plan.specs.Limits.{planNumbers}
 use Rattle.series.specs.Series.{Series, plannedOf}
 use Rattle.bwmap.specs.declared.Answer.the-variants.{Planned}
 use Rattle.bwmap.specs.Plan as whole
 use Rattle.plan.specs.Records.{mark}
-use Rattle.bwmap.specs.Plan.{messages, counted, written, MapLeaves, Left}
+use Rattle.plan.specs.Plan.{messages, written}
+use Rattle.bwmap.specs.Plan.{counted, MapLeaves, PlanLeft}
 use Rattle.bwmap.proofs.Kept.{bursts-most}
 use Rattle.payload.specs.Walk.{Walked, memoryBytes, allWithin, fit, receiveOf}
 use Rattle.arrival.specs.Given.{Arrival, Lent, replyOctets, enough, buffersFit}
@@ -77,7 +78,7 @@ pub planned-fully
     → (planOf answer ≡ counted carried (plannedOf own m carried)) × (left ≡ written (plannedOf own m carried) plan)
 planned-fully own m carried plan answer left h e =
     let full = e ∙ in-full own m carried plan h in
-    (ap (λ (x : Left). planOf (x .answer)) full, ap (λ (x : Left). x .plan) full)
+    (ap (λ (x : PlanLeft). planOf (x .answer)) full, ap (λ (x : PlanLeft). x .plan) full)
 
 -- ---- the replies: room for as many as can be planned
 

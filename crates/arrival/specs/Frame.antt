@@ -21,7 +21,7 @@ use Rattle.series.specs.Series.{Series, plannedOf, lastEnd, carriedOver}
 use Rattle.bwmap.specs.declared.Plan.{Plan}
 use Rattle.bwmap.specs.declared.Answer as planning
 use Rattle.bwmap.specs.declared.Answer.the-variants.{Planned, PlanTooShort}
-use Rattle.bwmap.specs.Plan.{records, messages, written}
+use Rattle.plan.specs.Plan.{records, messages, written}
 use Rattle.payload.specs.declared.walk.Delineation.{Delineation}
 use Rattle.payload.specs.declared.walk.Delineation.the-variants.{Kept, Lost, Unfit}
 use Rattle.payload.specs.Walk.{Walked, walkOf}

@@ -7,7 +7,7 @@ use lib.Dec.{leb}
 use lib.ListN.{length}
 use Rattle.ploam.specs.Layout.{messageOctets}
 use Rattle.series.specs.Limits.{burstsAFrame}
-use Rattle.bwmap.specs.Limits.{planNumbers}
+use Rattle.plan.specs.Limits.{planNumbers}
 use Rattle.payload.specs.Walk.{memoryBytes}
 
 -- the frame of this frame time, with the random delay of Serial_Number_ONU in bit times

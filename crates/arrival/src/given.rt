@@ -16,7 +16,7 @@ pub(crate) fn enough(
     if memory < payload::MEMORY_BYTES {
         return false;
     }
-    if plan < bwmap::PLAN_NUMBERS {
+    if plan < plan::PLAN_NUMBERS {
         return false;
     }
     if replies < REPLY_OCTETS {

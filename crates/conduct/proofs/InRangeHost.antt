@@ -76,10 +76,6 @@ settled : (b : Bool) (was next : Station) → Sound was → (b ≡ true → Soun
 settled true was next f g = g refl
 settled false was next f g = f
 
-same-found : (p : Place) → host.found p ≡ isHeld p
-same-found (At i) = refl
-same-found Nowhere = refl
-
 -- what an answer 0 to an added port tells of it
 added-told
     : (r a h v : Bool) → done (cond r StateOutOfRange (cond a PortOutOfRange (cond h PortHeldOrNotHeld (cond v Done SlotsTaken)))) ≡ true
@@ -94,9 +90,9 @@ unfolding afterAdd answerToAdd Comes
 add-sound s p f =
     settled (done (answerToAdd s p)) s (withPorts s (addPort (s .ports) p)) f
     (λ e.
-    let t = added-told (not (inRange s)) (not (assignablePort p)) (host.found (portPlace (s .ports) p)) (host.found (vacancy (s .ports))) e in
+    let t = added-told (not (inRange s)) (not (assignablePort p)) (isHeld (portPlace (s .ports) p)) (isHeld (vacancy (s .ports))) e in
     let n : some (samePort p) (s .ports .ids) ≡ false =
-    sym (found-some (samePort p) 0 (s .ports .ids)) ∙ sym (same-found (portPlace (s .ports) p)) ∙ t .1 in
+    sym (found-some (samePort p) 0 (s .ports .ids)) ∙ t .1 in
     put-sound s p noPort (vacancy (s .ports)) refl
     (λ k. (not-false (assignablePort p) (t .0), some-held (samePort p) (s .ports .ids) n))
     f)

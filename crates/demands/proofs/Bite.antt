@@ -18,8 +18,8 @@ use Rattle.station.specs.declared.Station.{Station}
 use Rattle.station.specs.Station.{powerOn}
 use Rattle.series.specs.Series.{Series}
 use Rattle.plan.specs.Records.{headFlags, burstFlags}
-use Rattle.bwmap.specs.Plan.{records, seriesNumbers, written}
-use Rattle.bwmap.specs.Laser.{Sending, opens, granted, sending, laser}
+use Rattle.plan.specs.Plan.{records, seriesNumbers, written}
+use Rattle.plan.specs.Laser.{Sending, opens, granted, sending, laser}
 use Rattle.conduct.proofs.InRange.{sound-in-range, power-on-sound}
 use Rattle.ledger.proofs.Runs.{ledger-exact}
 use Rattle.ledger.proofs.Plan.{always-ours}

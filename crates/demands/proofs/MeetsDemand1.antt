@@ -29,7 +29,8 @@ use Rattle.station.specs.Station.{withLink, withPorts}
 use Rattle.ranges.specs.Ranges.{inRange}
 use Rattle.timing.specs.Timing.{lostTime}
 use Rattle.station.specs.declared.answers.Outcome.{Outcome}
-use Rattle.host.specs.Host.{found, outcome, answerToAdd, answerToRemove, answerToKey, afterAdd, afterRemove, afterKey}
+use Rattle.ids.specs.Places.{isHeld}
+use Rattle.host.specs.Host.{outcome, answerToAdd, answerToRemove, answerToKey, afterAdd, afterRemove, afterKey}
 use Rattle.payload.specs.Frames.{parse}
 use Rattle.stretches.specs.Stretch.{stretchOf}
 use Rattle.downstream.specs.declared.Opening.the-variants.{Refused, Unread, Opened}
@@ -55,10 +56,10 @@ lost-row s = go (inRange s) refl
 
 add-row : (s : Station) (port : PortId) → AddRow s port (afterAdd s port .answer) (afterAdd s port .station)
 unfolding afterAdd answerToAdd
-add-row s port = go (inRange s) refl (assignablePort port) refl (found (portPlace (s .ports) port)) refl (found (vacancy (s .ports))) refl
+add-row s port = go (inRange s) refl (assignablePort port) refl (isHeld (portPlace (s .ports) port)) refl (isHeld (vacancy (s .ports))) refl
   where
     go
-        : (a : Bool) → inRange s ≡ a → (b : Bool) → assignablePort port ≡ b → (c : Bool) → found (portPlace (s .ports) port) ≡ c → (d : Bool) → found (vacancy (s .ports)) ≡ d
+        : (a : Bool) → inRange s ≡ a → (b : Bool) → assignablePort port ≡ b → (c : Bool) → isHeld (portPlace (s .ports) port) ≡ c → (d : Bool) → isHeld (vacancy (s .ports)) ≡ d
         → let o = outcome (cond (not a) StateOutOfRange (cond (not b) PortOutOfRange (cond c PortHeldOrNotHeld (cond d Done SlotsTaken)))) s (withPorts s (addPort (s .ports) port)) in
         AddRow s port (o .answer) (o .station)
     go false p b q c r d t = (p, refl)
@@ -69,10 +70,10 @@ add-row s port = go (inRange s) refl (assignablePort port) refl (found (portPlac
 
 remove-row : (s : Station) (port : PortId) → RemoveRow s port (afterRemove s port .answer) (afterRemove s port .station)
 unfolding afterRemove answerToRemove
-remove-row s port = go (inRange s) refl (assignablePort port) refl (found (portPlace (s .ports) port)) refl
+remove-row s port = go (inRange s) refl (assignablePort port) refl (isHeld (portPlace (s .ports) port)) refl
   where
     go
-        : (a : Bool) → inRange s ≡ a → (b : Bool) → assignablePort port ≡ b → (c : Bool) → found (portPlace (s .ports) port) ≡ c
+        : (a : Bool) → inRange s ≡ a → (b : Bool) → assignablePort port ≡ b → (c : Bool) → isHeld (portPlace (s .ports) port) ≡ c
         → let o = outcome (cond (not a) StateOutOfRange (cond (not b) PortOutOfRange (cond c Done PortHeldOrNotHeld))) s (withPorts s (removePort (s .ports) port)) in
         RemoveRow s port (o .answer) (o .station)
     go false p b q c r = (p, refl)

@@ -14,9 +14,9 @@ use Rattle.station.specs.declared.answers.Answer.{Answer}
 use Rattle.station.specs.declared.answers.Answer.the-variants.{Done, StateOutOfRange, FrameLengthUnfit, BufferTooShort, HlendUnreadable, HeaderTooLong, DelineationLost, PortOutOfRange, PortHeldOrNotHeld, SlotsTaken, KeyRefused, NotWritten}
 use Rattle.series.specs.Series.{Series, entryAt, plannedOf}
 use Rattle.bwmap.specs.Promises.{Follow, SeriesIn, Every}
-use Rattle.bwmap.specs.Laser.{burstOf, burstsOf}
+use Rattle.plan.specs.Laser.{burstOf, burstsOf}
 use Rattle.bwmap.proofs.Kept.{planned-ours, every-series-accounted}
-use Rattle.bwmap.proofs.ReadBack.{laser-obeys}
+use Rattle.plan.proofs.ReadBack.{laser-obeys}
 use Rattle.ledger.specs.Events.{Event, stationOf}
 use Rattle.ledger.specs.Plan.{ownAt, NumberOf}
 use Rattle.arrival.specs.Given.{Arrival, Lent}
@@ -57,7 +57,7 @@ module _ (first : Station) (h : List Event) (arrival : Arrival) (lent : Lent) (h
   -- what the laser sends is what was planned
   handled-sent : sendings (handled (stationOf first h) hl arrival lent) ≡ burstsOf (plannedOf (ownAt first h) (mapOf hl (arrival .octets)) (stationOf first h .carried))
   unfolding handled done plannedIn
-  handled-sent = laser-obeys (ownAt first h) (mapOf hl (arrival .octets)) (stationOf first h .carried) (lent .plan)
+  handled-sent = laser-obeys (plannedOf (ownAt first h) (mapOf hl (arrival .octets)) (stationOf first h .carried)) (lent .plan)
 
   handled-obeys : NumberOf first h → (left : FrameLeft) → left ≡ handled (stationOf first h) hl arrival lent → Obeys first h (mapOf hl (arrival .octets)) (stationOf first h .carried) (sendings left)
   handled-obeys n left q =

@@ -28,10 +28,12 @@ use Rattle.ranges.specs.Ranges.{inRange}
 use Rattle.timing.specs.Timing.{frameEnd}
 use Rattle.payload.specs.Frames.{parse}
 use Rattle.payload.specs.Walk.{memoryBytes}
-use Rattle.series.specs.Series.{Series, standings, seriesOf, burstWords, endOf}
-use Rattle.bwmap.specs.Limits.{planNumbers}
-use Rattle.bwmap.specs.Promises.{Account, done as none-left, plans, too-long, overlapping, after-the-fourth}
-use Rattle.bwmap.specs.Laser.{Sending, burstsOf}
+use Rattle.series.specs.declared.Around.{Around}
+use Rattle.series.specs.Limits.{wordsABurst, burstsAFrame}
+use Rattle.series.specs.Series.{Series, standings, seriesOf, burstWords, arriving, beyond}
+use Rattle.plan.specs.Limits.{planNumbers}
+use Rattle.bwmap.specs.Promises.{Account, done as none-left, plans, too-long, overlapping, after-the-last}
+use Rattle.plan.specs.Laser.{Sending, burstsOf}
 use Rattle.conduct.proofs.InRange.{sound-in-range, power-on-sound, enter-sound}
 use Rattle.ledger.specs.Events.{stationOf}
 use Rattle.station.specs.declared.answers.Outcome.{Outcome}
@@ -92,7 +94,7 @@ pub record Leads (left : FrameLeft) (to : Station) : Type 0 where
 pub record Asked (right : Station) (m : List ℕ) (bursts : List Sending) : Type 0 where
   pub planned : List Series
   pub are : bursts ≡ burstsOf planned
-  pub account : Account (right .carried) 0 (seriesOf (standings (ownOf right) m)) planned
+  pub account : Account (arriving (right .carried)) (seriesOf (standings (ownOf right) m)) planned
 
 module _ (call : Station → Arrival → Lent → FrameLeft) (lose : Station → Outcome) where
   module _ (st : Progress) (right own : Station) (k : Stands st right own) (f : List ℕ) where
@@ -125,25 +127,26 @@ module _ (call : Station → Arrival → Lent → FrameLeft) (lose : Station →
       record {
         planned = o .planned;
         are = ap sendings (sym e) ∙ o .are;
-        account = subst (λ (s : Station). Account (s .carried) 0 (seriesOf (standings (ownOf s) (mapOf h f))) (o .planned)) (k .history) (o .account);
+        account = subst (λ (s : Station). Account (arriving (s .carried)) (seriesOf (standings (ownOf s) (mapOf h f))) (o .planned)) (k .history) (o .account);
       }
 
 -- ---- the account
 
--- a series that is not too long, does not overlap and comes before four are planned is planned
-pub record Next (s : Series) (l p : List Series) (n : ℕ) : Type 0 where
+-- a series that is not too long, does not overlap and comes before the bound is planned
+pub record Next (around : Around) (s : Series) (l p : List Series) : Type 0 where
   pub rest : List Series
   pub is : p ≡ s ∷ rest
-  pub account : Account (endOf s) (n + 1) l rest
+  pub account : Account (beyond around s) l rest
 
 pub next-planned
-    : {e n : ℕ} {s : Series} {l p : List Series} → burstWords s ≤ 9720 → e ≤ s .head .start → n < 4 → Account e n (s ∷ l) p → Next s l p n
+    : {around : Around} {s : Series} {l p : List Series} → burstWords s ≤ wordsABurst → around .end ≤ s .head .start → around .bursts < burstsAFrame
+    → Account around (s ∷ l) p → Next around s l p
 next-planned a b c (plans because rest) = record { rest = _; is = refl; account = rest }
 next-planned a b c (too-long because rest) = absurd (omega arith)
 next-planned a b c (overlapping because rest) = absurd (omega arith)
-next-planned a b c (after-the-fourth because rest) = absurd (omega arith)
+next-planned a b c (after-the-last because rest) = absurd (omega arith)
 
-pub none-planned : {e n : ℕ} {p : List Series} → Account e n [] p → p ≡ []
+pub none-planned : {around : Around} {p : List Series} → Account around [] p → p ≡ []
 none-planned none-left = refl
 
 -- ---- a frame with no map and no message, at power-on and in any state

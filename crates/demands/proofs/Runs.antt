@@ -15,7 +15,7 @@ use Rattle.ranges.specs.Ranges.{inRange}
 use Rattle.timing.specs.Timing.{lostTime}
 use Rattle.activation.specs.Receiving.{messagesIn}
 use Rattle.series.specs.Series.{lastEnd, carriedOver}
-use Rattle.bwmap.specs.Plan.{messages}
+use Rattle.plan.specs.Plan.{messages}
 use Rattle.conduct.proofs.InRange.{Sound, sound-in-range, power-on-sound}
 use Rattle.conduct.proofs.InRangeHost.{add-sound, remove-sound, key-sound}
 use Rattle.ledger.specs.Events.{Event, stationOf}

@@ -15,11 +15,11 @@ use Rattle.timing.specs.Timing.{silence, lostTime, unreadTime}
 use Rattle.activation.specs.Receiving.{receiveAll, messagesIn}
 use Rattle.series.specs.Limits.{ploamuWords}
 use Rattle.series.specs.Series.{Series, grants, wordsOf, burstWords, plannedOf}
-use Rattle.bwmap.specs.Laser.{grantsOf, burstOf, burstsOf}
+use Rattle.plan.specs.Laser.{grantsOf, burstOf, burstsOf}
 use Rattle.bwmap.specs.Upstream.{FrameTime, dark, Burst, carry, bursts, takers}
 use Rattle.bwmap.specs.Upstream as upstream
 use Rattle.bwmap.proofs.Once.{times-apart, at-most-one}
-use Rattle.bwmap.proofs.ReadBack.{laser-obeys}
+use Rattle.plan.proofs.ReadBack.{laser-obeys}
 use Rattle.conduct.proofs.InRange.{Sound}
 use Rattle.arrival.specs.Given.{Arrival, Lent}
 use Rattle.downstream.specs.Partitions.{mapOf, messagesOf}
@@ -71,7 +71,7 @@ handled-carried s hl arrival lent =
 handled-sent : (s : Station) (hl : Hlend) (arrival : Arrival) (lent : Lent)
     → sendings (handled s hl arrival lent) ≡ burstsOf (plannedOf (ownOf s) (mapOf hl (arrival .octets)) (s .carried))
 unfolding handled done plannedIn
-handled-sent s hl arrival lent = laser-obeys (ownOf s) (mapOf hl (arrival .octets)) (s .carried) (lent .plan)
+handled-sent s hl arrival lent = laser-obeys (plannedIn s hl arrival) (lent .plan)
 
 unread-carried : (s : Station) → unreadTime s .carried ≡ 0
 unfolding unreadTime silence

@@ -30,7 +30,7 @@ use Rattle.ports.specs.Ports.{portPlace, vacancy, addPort, removePort}
 use Rattle.station.specs.Station.{withLink, withPorts}
 use Rattle.ranges.specs.Ranges.{inRange}
 use Rattle.timing.specs.Timing.{lostTime}
-use Rattle.host.specs.Host.{found}
+use Rattle.ids.specs.Places.{isHeld}
 use Rattle.payload.specs.Frames.{parse}
 use Rattle.downstream.specs.Lengths.{lengthFits}
 use Rattle.arrival.specs.Given.{Arrival, Lent}
@@ -59,14 +59,14 @@ LostRow s NotWritten next = ⊥
 -- a port is added: 1, 7, 8, 9 with nothing changed, tested in that order, or it has the lowest empty slot
 abbrev pub AddRow : Station → PortId → Answer → Station → Type 0
 AddRow s port Done next =
-    (inRange s ≡ true) × (assignablePort port ≡ true) × (found (portPlace (s .ports) port) ≡ false) × (found (vacancy (s .ports)) ≡ true)
+    (inRange s ≡ true) × (assignablePort port ≡ true) × (isHeld (portPlace (s .ports) port) ≡ false) × (isHeld (vacancy (s .ports)) ≡ true)
     × (next ≡ withPorts s (addPort (s .ports) port))
 AddRow s port StateOutOfRange next = (inRange s ≡ false) × (next ≡ s)
 AddRow s port PortOutOfRange next = (inRange s ≡ true) × (assignablePort port ≡ false) × (next ≡ s)
 AddRow s port PortHeldOrNotHeld next =
-    (inRange s ≡ true) × (assignablePort port ≡ true) × (found (portPlace (s .ports) port) ≡ true) × (next ≡ s)
+    (inRange s ≡ true) × (assignablePort port ≡ true) × (isHeld (portPlace (s .ports) port) ≡ true) × (next ≡ s)
 AddRow s port SlotsTaken next =
-    (inRange s ≡ true) × (assignablePort port ≡ true) × (found (portPlace (s .ports) port) ≡ false) × (found (vacancy (s .ports)) ≡ false) × (next ≡ s)
+    (inRange s ≡ true) × (assignablePort port ≡ true) × (isHeld (portPlace (s .ports) port) ≡ false) × (isHeld (vacancy (s .ports)) ≡ false) × (next ≡ s)
 AddRow s port FrameLengthUnfit next = ⊥
 AddRow s port BufferTooShort next = ⊥
 AddRow s port HlendUnreadable next = ⊥
@@ -78,11 +78,11 @@ AddRow s port NotWritten next = ⊥
 -- a port is removed: 1, 7, 8
 abbrev pub RemoveRow : Station → PortId → Answer → Station → Type 0
 RemoveRow s port Done next =
-    (inRange s ≡ true) × (assignablePort port ≡ true) × (found (portPlace (s .ports) port) ≡ true) × (next ≡ withPorts s (removePort (s .ports) port))
+    (inRange s ≡ true) × (assignablePort port ≡ true) × (isHeld (portPlace (s .ports) port) ≡ true) × (next ≡ withPorts s (removePort (s .ports) port))
 RemoveRow s port StateOutOfRange next = (inRange s ≡ false) × (next ≡ s)
 RemoveRow s port PortOutOfRange next = (inRange s ≡ true) × (assignablePort port ≡ false) × (next ≡ s)
 RemoveRow s port PortHeldOrNotHeld next =
-    (inRange s ≡ true) × (assignablePort port ≡ true) × (found (portPlace (s .ports) port) ≡ false) × (next ≡ s)
+    (inRange s ≡ true) × (assignablePort port ≡ true) × (isHeld (portPlace (s .ports) port) ≡ false) × (next ≡ s)
 RemoveRow s port SlotsTaken next = ⊥
 RemoveRow s port FrameLengthUnfit next = ⊥
 RemoveRow s port BufferTooShort next = ⊥

@@ -20,9 +20,9 @@ use Rattle.station.specs.Limits.{upstreamWords}
 use Rattle.station.specs.States.{holdsIdentity}
 use Rattle.station.specs.States.{silent}
 use Rattle.series.specs.Limits.{ploamuWords}
-use Rattle.series.specs.Series.{Series, standings, seriesOf}
+use Rattle.series.specs.Series.{Series, arriving, standings, seriesOf}
 use Rattle.bwmap.specs.Promises.{SeriesIn, Account}
-use Rattle.bwmap.specs.Laser.{Grant, Sending, laser, burstOf, burstsOf}
+use Rattle.plan.specs.Laser.{Grant, Sending, laser, burstOf, burstsOf}
 use Rattle.bwmap.specs.Upstream.{Burst, takers}
 use Rattle.ledger.specs.Events.{Event, stationOf}
 use Rattle.ledger.specs.Promises.{Exact}
@@ -92,7 +92,7 @@ pub record Obeys (first : Station) (h : List Event) (m : List ℕ) (carried : �
   -- and the series of ours, in map order, are each planned once or left out for a fact that is shown
   pub planned : List Series
   pub are : bursts ≡ burstsOf planned
-  pub account : Account carried 0 (seriesOf (standings (ownAt first h) m)) planned
+  pub account : Account (arriving carried) (seriesOf (standings (ownAt first h) m)) planned
 
 abbrev pub Plans : Answer → Station → Progress → Arrival → FrameLeft → Type 0
 Plans answer first st a left =

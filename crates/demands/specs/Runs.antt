@@ -12,7 +12,7 @@ use Rattle.station.specs.declared.answers.Answer.{Answer}
 use Rattle.station.specs.declared.answers.Answer.the-variants.{Done, StateOutOfRange, FrameLengthUnfit, BufferTooShort, HlendUnreadable, HeaderTooLong, DelineationLost, PortOutOfRange, PortHeldOrNotHeld, SlotsTaken, KeyRefused, NotWritten}
 use Rattle.activation.specs.Receiving.{messagesIn}
 use Rattle.series.specs.Series.{lastEnd, carriedOver}
-use Rattle.bwmap.specs.Plan.{messages}
+use Rattle.plan.specs.Plan.{messages}
 use Rattle.ledger.specs.Events.{Event, unread, portAdded, portRemoved, keyGiven, stationOf}
 use Rattle.ledger.specs.Events as event
 use Rattle.arrival.specs.Given.{Arrival, Lent, lending}

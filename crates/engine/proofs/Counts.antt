@@ -15,8 +15,8 @@ use Rattle.station.specs.declared.Station.{Station}
 use Rattle.station.specs.declared.answers.Answer.{Answer}
 use Rattle.station.specs.States.{isOperating}
 use Rattle.conduct.proofs.InRange.{Sound, sound-in-range}
-use Rattle.bwmap.specs.Plan as plan
-use Rattle.bwmap.proofs.Steps.{length-numbers}
+use Rattle.plan.specs.Plan as plan
+use Rattle.plan.proofs.Lengths.{length-numbers}
 use Rattle.payload.specs.declared.frames.Next.{Next}
 use Rattle.payload.specs.declared.frames.Next.the-variants.{Done, Lost, Frame}
 use Rattle.payload.specs.declared.walk.Delineation.the-variants.{Kept}

@@ -19,7 +19,7 @@ use Rattle.activation.specs.Receiving.{messagesIn}
 use Rattle.replies.specs.Replying.{afterReply}
 use Rattle.replies.specs.Replies.{inPlace, repliesFrom}
 use Rattle.series.specs.Series.{plannedOf, lastEnd, carriedOver}
-use Rattle.bwmap.specs.Plan.{messages}
+use Rattle.plan.specs.Plan.{messages}
 use Rattle.bwmap.proofs.Kept.{carried-most}
 use Rattle.conduct.proofs.InRange.{Sound}
 use Rattle.conduct.proofs.InRangeTimes.{frame-end-sound, lost-sound, unread-sound}

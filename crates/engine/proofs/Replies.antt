@@ -25,7 +25,7 @@ use Rattle.replies.specs.Replying.{replyOf, afterIn, afterReply}
 use Rattle.replies.specs.declared.replying.Reply.{Reply}
 use Rattle.replies.specs.declared.replying.Reply.the-variants.{Silent, Says}
 use Rattle.replies.specs.Replies.{keyOf, said, wrote, inPlace, repliesFrom}
-use Rattle.bwmap.specs.Plan.{messages}
+use Rattle.plan.specs.Plan.{messages}
 use Rattle.bwmap.proofs.Kept.{bursts-most}
 use Rattle.downstream.specs.declared.Opening.{Opening}
 use Rattle.downstream.specs.declared.Opening.the-variants.{Refused, Unread, Opened}

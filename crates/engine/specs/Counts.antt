@@ -7,7 +7,7 @@ use mathlib.Core.List.{List, _++_}
 use lib.ListN.{length, drop}
 use Rattle.station.specs.declared.Station.{Station}
 use Rattle.replies.specs.Replies.{repliesFrom}
-use Rattle.bwmap.specs.Limits.{numbersARecord}
+use Rattle.plan.specs.Limits.{numbersARecord}
 use Rattle.arrival.specs.Given.{Arrival, Lent}
 use Rattle.arrival.specs.Frame.{FrameLeft}
 

@@ -1,22 +1,12 @@
 // The host's calls: a port added, a port removed, the key given. A refusal leaves the station as it was.
 ghost use mathlib.Core.Path.{_≡_};
-ghost use Rattle.host.specs.Host.{found, done, outcome, answerToAdd, answerToRemove, answerToKey};
+ghost use Rattle.host.specs.Host.{done, outcome, answerToAdd, answerToRemove, answerToKey};
 ghost use Rattle.host.specs.Host.{AddLeaves, RemoveLeaves, KeyLeaves, afterAdd, afterRemove, afterKey};
-use ids::Place;
 use ids::PortId;
 use link::Key;
 use station::Station;
 use station::answers::Answer;
 use station::answers::Outcome;
-
-fn is_found(place: Place) -> bool
-    ensures { λ r. ⌜ r ≡ found place ⌝ }
-{
-    match place {
-        Place::At(_) => true,
-        Place::Nowhere => false,
-    }
-}
 
 fn is_done(answer: Answer) -> bool
     ensures { λ r. ⌜ r ≡ done answer ⌝ }
@@ -63,10 +53,12 @@ fn answer_to_add(s: Station, port: PortId) -> Answer
         return Answer::PortOutOfRange;
     }
     let ports = s.ports;
-    if is_found(ports.place(port)) {
+    let place = ports.place(port);
+    if place.is_held() {
         return Answer::PortHeldOrNotHeld;
     }
-    if is_found(ports.vacancy()) {
+    let vacancy = ports.vacancy();
+    if vacancy.is_held() {
         return Answer::Done;
     }
     Answer::SlotsTaken
@@ -82,7 +74,8 @@ fn answer_to_remove(s: Station, port: PortId) -> Answer
         return Answer::PortOutOfRange;
     }
     let ports = s.ports;
-    if is_found(ports.place(port)) {
+    let place = ports.place(port);
+    if place.is_held() {
         return Answer::Done;
     }
     Answer::PortHeldOrNotHeld

@@ -12,7 +12,7 @@ use Rattle.station.specs.Answers.{answerNumber}
 use Rattle.station.specs.States.{stateNumber}
 use Rattle.payload.specs.Memory.{put}
 use Rattle.payload.specs.Walk.{memoryBytes}
-use Rattle.bwmap.specs.Limits.{planNumbers}
+use Rattle.plan.specs.Limits.{planNumbers}
 use Rattle.arrival.specs.declared.Counts.{Counts}
 use Rattle.arrival.specs.Given.{Lent, arriving, lending, replyOctets}
 use Rattle.arrival.specs.Frame.{FrameLeft, noCounts, frameLeft}

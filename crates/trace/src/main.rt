@@ -74,7 +74,7 @@ fn finish(run: Run, kept: usize, text: &mut [u8])
 fn main() {
     let mut input = [0u8; INPUT];
     let mut memory = [0u8; payload::MEMORY_BYTES];
-    let mut plan = [0u16; bwmap::PLAN_NUMBERS];
+    let mut plan = [0u16; plan::PLAN_NUMBERS];
     let mut replies = [0u8; arrival::given::REPLY_OCTETS];
     let mut deliveries = [0u8; DELIVERIES];
     let mut text = [0u8; TEXT];
