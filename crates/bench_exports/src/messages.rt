@@ -1,6 +1,6 @@
 // The messages of a frame, for a station in O5 with ONU-ID 5 and a key.
 ghost use mathlib.Core.Path.{_≡_};
-ghost use Rattle.activation.specs.Receiving.{receiveAll, messagesIn};
+ghost use Rattle.messages.specs.Receiving.{receiveAll, messagesIn};
 ghost use Prim.Native.Nat.{_≤_};
 ghost use Rattle.bench_exports.specs.Messages.{benchStation, benchKey, oneIf, genuineCount, genuineCountBy};
 use cmac::Prepared;
@@ -28,7 +28,7 @@ fn bench_station() -> Station
 pub extern "C" fn bench_messages(messages: &[u8]) -> u32
     ensures { λ r. ⌜ r ≡ receiveAll benchStation (messagesIn (now (messages .entry))) .link .delay ⌝ }
 {
-    let s = activation::receive_all(bench_station(), messages);
+    let s = messages::receive_all(bench_station(), messages);
     let link = s.link;
     link.delay
 }

@@ -3,7 +3,7 @@
 use mathlib.Core.Path.{_≡_, _∙_, sym}
 use mathlib.Core.List.{List}
 use Prim.Native.Nat.{ℕ}
-use Rattle.arrival.specs.Given.{Arrival, Lent}
+use Rattle.frame.specs.Given.{Arrival, Lent}
 use Rattle.boundary.specs.Calls.{StateLeft, lostOn, addOn, removeOn, keyOn, powerOnIn}
 use Rattle.boundary.specs.Frames.{BuffersLeft, PlaceLeft, frameOn, placeOn}
 use Rattle.boundary.specs.Writers.{Target, hlendIn, allocationIn, xgemFrameIn}

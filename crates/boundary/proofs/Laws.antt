@@ -6,40 +6,40 @@ use Prim.Native.Nat.{ℕ}
 use native.Mathlib.Omega.{arith}
 use lib.ListN.{length, take, drop, drop-of-length-le}
 use lib.Seq.{take-length}
-use Rattle.framing.specs.Reads.{Found, fields, unreadable, short}
-use Rattle.framing.specs.Writes as writes
-use Rattle.framing.specs.Writes.{number}
-use Rattle.framing.specs.declared.words.Written as framed
+use Rattle.xgem.specs.Reads.{Found, fields, unreadable, short}
+use Rattle.xgem.specs.Writes as writes
+use Rattle.xgem.specs.Writes.{number}
+use Rattle.xgem.specs.declared.words.Written as framed
 use Rattle.station.specs.declared.Station.{Station}
 use Rattle.station.specs.declared.answers.Answer.the-variants.{Done}
 use Rattle.station.specs.Answers.{answerNumber}
 use Rattle.station.specs.declared.answers.Outcome.{Outcome}
-use Rattle.arrival.specs.declared.Counts.{Counts}
-use Rattle.arrival.specs.declared.FrameOutcome.{FrameOutcome}
+use Rattle.frame.specs.declared.Counts.{Counts}
+use Rattle.frame.specs.declared.FrameOutcome.{FrameOutcome}
 use Rattle.engine.specs.declared.stretching.StretchPlace.{StretchPlace}
-use Rattle.arrival.specs.Given.{Arrival, Lent}
-use Rattle.arrival.specs.Frame.{FrameLeft, leaving, noCounts, frameLeft}
+use Rattle.frame.specs.Given.{Arrival, Lent}
+use Rattle.frame.specs.Frame.{FrameLeft, leaving, noCounts, frameLeft}
 use Rattle.engine.specs.Stretch.{stretchPlace}
 use Rattle.layout.specs.declared.StateRead.{StateRead}
-use Rattle.layout.specs.declared.Standing.{Standing}
-use Rattle.layout.specs.declared.Standing.the-variants.{Held, Unreadable, Short}
+use Rattle.layout.specs.declared.Contents.{Contents}
+use Rattle.layout.specs.declared.Contents.the-variants.{Held, Unreadable, Short}
 use Rattle.layout.specs.Layout.{readOf, found, decoded, stored}
 use Rattle.boundary.specs.Calls.{StateLeft, by}
 use Rattle.boundary.specs.Frames.{BuffersLeft, PlaceLeft, counted, afterFrame, refusedFrame, frameBy, placed, placeBy}
 use Rattle.boundary.specs.Writers.{Target, written}
 
 module _ (b : List ℕ) (r : StateRead) (e : r ≡ readOf b) where
-  as-read : decoded b ≡ found (r .standing) (r .station)
-  as-read = ap (λ (x : StateRead). found (x .standing) (x .station)) (sym e)
+  as-read : decoded b ≡ found (r .contents) (r .station)
+  as-read = ap (λ (x : StateRead). found (x .contents) (x .station)) (sym e)
 
-  pub is-held : r .standing ≡ Held → decoded b ≡ fields (r .station)
-  is-held h = as-read ∙ ap (λ (k : Standing). found k (r .station)) h
+  pub is-held : r .contents ≡ Held → decoded b ≡ fields (r .station)
+  is-held h = as-read ∙ ap (λ (k : Contents). found k (r .station)) h
 
-  pub is-unreadable : r .standing ≡ Unreadable → decoded b ≡ unreadable
-  is-unreadable h = as-read ∙ ap (λ (k : Standing). found k (r .station)) h
+  pub is-unreadable : r .contents ≡ Unreadable → decoded b ≡ unreadable
+  is-unreadable h = as-read ∙ ap (λ (k : Contents). found k (r .station)) h
 
-  pub is-short : r .standing ≡ Short → decoded b ≡ short
-  is-short h = as-read ∙ ap (λ (k : Standing). found k (r .station)) h
+  pub is-short : r .contents ≡ Short → decoded b ≡ short
+  is-short h = as-read ∙ ap (λ (k : Contents). found k (r .station)) h
 
 -- ---- the calls on a state alone
 
@@ -118,7 +118,7 @@ module _ (b f : List ℕ) (k : ℕ) (place : List ℕ) where
 
 -- ---- the writers
 
-pub write-as : (l : writes.Left) (w : framed.Written) (x : List ℕ) (n : ℕ) → _≡_ {A = writes.Left} (record { answer = w; target = x }) l → n ≡ number w → _≡_ {A = Target} (record { answer = n; target = x }) (written l)
+pub write-as : (l : writes.WriteLeft) (w : framed.Written) (x : List ℕ) (n : ℕ) → _≡_ {A = writes.WriteLeft} (record { answer = w; target = x }) l → n ≡ number w → _≡_ {A = Target} (record { answer = n; target = x }) (written l)
 write-as l w x n e en =
     let made : _≡_ {A = Target} (record { answer = n; target = x }) (written (record { answer = w; target = x })) = λ j. record { answer = en j; target = x } in
     made ∙ ap written e

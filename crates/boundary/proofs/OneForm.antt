@@ -7,14 +7,14 @@ use Prim.Native.Nat.{ℕ, _-_, _^_, _<_}
 use native.Mathlib.Omega.{arith}
 use lib.Dec.{leb}
 use borrow.Author.Tests.{leb-true}
-use Rattle.framing.specs.Reads.{Found, fields}
+use Rattle.xgem.specs.Reads.{Found, fields}
 use Rattle.station.specs.declared.Station.{Station}
 use Rattle.link.specs.Limits.{addedAllocs, mostOwed}
 use Rattle.station.specs.Limits.{upstreamWords}
 use Rattle.link.specs.Link.{heldAllocs}
 use Rattle.ids.specs.Ids.{assignableAlloc, sameAlloc}
-use Rattle.ranges.specs.Ranges.{inRange, identityFits, allocsFit, portsFit, partialsFit, timerFits, proper}
-use Rattle.ranges.proofs.Tests.{both}
+use Rattle.validity.specs.Ranges.{inRange, identityFits, allocsFit, portsFit, partialsFit, timerFits, proper}
+use Rattle.validity.proofs.Tests.{both}
 use Rattle.station.specs.declared.answers.Outcome.{Outcome}
 use Rattle.layout.specs.Layout.{decoded, stored}
 use Rattle.layout.proofs.RoundTrips.{read-stored}

@@ -6,14 +6,14 @@ use mathlib.Core.Bool.{cond}
 use mathlib.Core.List.{List, [], _∷_}
 use lib.Dec.{leb}
 use lib.ListN.{length}
-use Rattle.framing.specs.Reads.{Found, fields, unreadable, short}
-use Rattle.framing.specs.Writes.{put}
+use Rattle.xgem.specs.Reads.{Found, fields, unreadable, short}
+use Rattle.xgem.specs.Writes.{put}
 use Rattle.station.specs.declared.Station.{Station}
 use Rattle.station.specs.declared.answers.Answer.the-variants.{StateOutOfRange, BufferTooShort}
 use Rattle.station.specs.Answers.{answerNumber}
-use Rattle.arrival.specs.declared.Counts.{Counts}
-use Rattle.arrival.specs.Given.{Arrival, Lent}
-use Rattle.arrival.specs.Frame.{FrameLeft, noCounts, frameLeft}
+use Rattle.frame.specs.declared.Counts.{Counts}
+use Rattle.frame.specs.Given.{Arrival, Lent}
+use Rattle.frame.specs.Frame.{FrameLeft, noCounts, frameLeft}
 use Rattle.engine.specs.Stretch.{stretchPlace}
 use Rattle.layout.specs.Layout.{decoded, stored}
 

@@ -3,12 +3,12 @@ ghost use mathlib.Core.Path.{_≡_};
 ghost use mathlib.Core.List.{[], _∷_};
 ghost use Prim.Native.Nat.{_≤_};
 ghost use lib.ListN.{length};
-ghost use Rattle.framing.specs.Writes.{put};
-ghost use Rattle.arrival.specs.Given.{arriving, lending};
+ghost use Rattle.xgem.specs.Writes.{put};
+ghost use Rattle.frame.specs.Given.{arriving, lending};
 ghost use Rattle.boundary.specs.Frames.{BuffersAre, PlaceIs, countNumbers, placeNumbers, counted, frameOn, placeOn};
 use super::states;
-use arrival::Counts;
-use layout::Standing;
+use frame::Counts;
+use layout::Contents;
 
 const STATE_OUT_OF_RANGE: u8 = 1;
 
@@ -53,21 +53,21 @@ pub extern "C" fn lingbarrow_frame(
         return BUFFER_TOO_SHORT;
     }
     let read = layout::read_state(state);
-    let standing = read.standing;
+    let contents = read.contents;
     let s = read.station;
-    match standing {
-        Standing::Held => {
+    match contents {
+        Contents::Held => {
             let r = engine::frame(s, memory, frame, random_delay, plan, replies, deliveries);
             let written = r.counts;
             put_counts(counts, written);
             let outcome = r.outcome;
             states::settle(outcome, state)
         }
-        Standing::Unreadable => {
+        Contents::Unreadable => {
             put_counts(counts, Counts::none());
             STATE_OUT_OF_RANGE
         }
-        Standing::Short => {
+        Contents::Short => {
             put_counts(counts, Counts::none());
             BUFFER_TOO_SHORT
         }
@@ -88,20 +88,20 @@ pub extern "C" fn lingbarrow_stretch(
         return BUFFER_TOO_SHORT;
     }
     let read = layout::read_state(state);
-    let standing = read.standing;
+    let contents = read.contents;
     let s = read.station;
-    match standing {
-        Standing::Held => {
+    match contents {
+        Contents::Held => {
             let p = engine::stretch_place(s, frame, k);
             let answer = p.answer;
             put_place(place, p.at, p.bytes);
             answer.number()
         }
-        Standing::Unreadable => {
+        Contents::Unreadable => {
             put_place(place, 0, 0);
             STATE_OUT_OF_RANGE
         }
-        Standing::Short => {
+        Contents::Short => {
             put_place(place, 0, 0);
             BUFFER_TOO_SHORT
         }

@@ -8,7 +8,7 @@ ghost use Rattle.station.specs.Answers.{answerNumber};
 ghost use Rattle.layout.specs.Layout.{stored};
 ghost use Rattle.boundary.specs.Calls.{StateIs, lostOn, addOn, removeOn, keyOn, powerOnIn};
 use ids::PortId;
-use layout::Standing;
+use layout::Contents;
 use station::Station;
 use station::answers::Outcome;
 
@@ -84,12 +84,12 @@ pub extern "C" fn lingbarrow_lost(state: &mut [u8]) -> u8
     ensures { λ r. ⌜ StateIs r (now (state .exit)) (lostOn (now (state .entry))) ⌝ }
 {
     let read = layout::read_state(state);
-    let standing = read.standing;
+    let contents = read.contents;
     let s = read.station;
-    match standing {
-        Standing::Held => settle(engine::lost(s), state),
-        Standing::Unreadable => STATE_OUT_OF_RANGE,
-        Standing::Short => BUFFER_TOO_SHORT,
+    match contents {
+        Contents::Held => settle(engine::lost(s), state),
+        Contents::Unreadable => STATE_OUT_OF_RANGE,
+        Contents::Short => BUFFER_TOO_SHORT,
     }
 }
 
@@ -98,13 +98,13 @@ pub extern "C" fn lingbarrow_add_port(state: &mut [u8], port: u16) -> u8
     ensures { λ r. ⌜ StateIs r (now (state .exit)) (addOn (now (state .entry)) port) ⌝ }
 {
     let read = layout::read_state(state);
-    let standing = read.standing;
+    let contents = read.contents;
     let s = read.station;
     let id = PortId(port);
-    match standing {
-        Standing::Held => settle(host::add_port(s, id), state),
-        Standing::Unreadable => STATE_OUT_OF_RANGE,
-        Standing::Short => BUFFER_TOO_SHORT,
+    match contents {
+        Contents::Held => settle(host::add_port(s, id), state),
+        Contents::Unreadable => STATE_OUT_OF_RANGE,
+        Contents::Short => BUFFER_TOO_SHORT,
     }
 }
 
@@ -113,13 +113,13 @@ pub extern "C" fn lingbarrow_remove_port(state: &mut [u8], port: u16) -> u8
     ensures { λ r. ⌜ StateIs r (now (state .exit)) (removeOn (now (state .entry)) port) ⌝ }
 {
     let read = layout::read_state(state);
-    let standing = read.standing;
+    let contents = read.contents;
     let s = read.station;
     let id = PortId(port);
-    match standing {
-        Standing::Held => settle(host::remove_port(s, id), state),
-        Standing::Unreadable => STATE_OUT_OF_RANGE,
-        Standing::Short => BUFFER_TOO_SHORT,
+    match contents {
+        Contents::Held => settle(host::remove_port(s, id), state),
+        Contents::Unreadable => STATE_OUT_OF_RANGE,
+        Contents::Short => BUFFER_TOO_SHORT,
     }
 }
 
@@ -132,11 +132,11 @@ pub extern "C" fn lingbarrow_give_key(state: &mut [u8], key: &[u8]) -> u8
     }
     let octets = key_of(key);
     let read = layout::read_state(state);
-    let standing = read.standing;
+    let contents = read.contents;
     let s = read.station;
-    match standing {
-        Standing::Held => settle(host::give_key(s, octets), state),
-        Standing::Unreadable => STATE_OUT_OF_RANGE,
-        Standing::Short => BUFFER_TOO_SHORT,
+    match contents {
+        Contents::Held => settle(host::give_key(s, octets), state),
+        Contents::Unreadable => STATE_OUT_OF_RANGE,
+        Contents::Short => BUFFER_TOO_SHORT,
     }
 }

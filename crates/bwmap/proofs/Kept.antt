@@ -11,10 +11,10 @@ use lib.Dec.{leb, ltb}
 use lib.ListN.{length, drop, take}
 use borrow.Author.Tests.{ltb-true, ltb-false, leb-true, leb-false}
 use Rattle.hec.specs.Reads.{Reading, word, unreadable as unreadable-word, reading}
-use Rattle.framing.specs.Octets.{value}
+use Rattle.octets.specs.Octets.{value}
 use Rattle.xgtc.specs.Layouts.{allocationOf}
 use Rattle.xgtc.specs.declared.allocation.Allocation.{Allocation}
-use Rattle.framing.specs.Reads.{fields, short, taken}
+use Rattle.xgem.specs.Reads.{fields, short, taken}
 use Rattle.xgtc.specs.Reads.{readAllocation}
 use Rattle.station.specs.Limits.{upstreamWords}
 use Rattle.entries.specs.Limits.{structureOctets, lastStart}

@@ -21,9 +21,9 @@ use Rattle.series.specs.Series.{Series, entryAt, entryCount, standingsFrom, run
 use Rattle.plan.specs.Records.{mark}
 use Rattle.plan.specs.Plan.{seriesNumbers, numbers, entriesIn, records, messages, written}
 use Rattle.bwmap.specs.Plan.{PlanLeft, counted}
-use Rattle.bwmap.specs.Turns.{rest, Run, tally, Outcome, outcome, toCome, starting, Small}
+use Rattle.bwmap.specs.Turns.{rest, Run, tally, Finished, finished, toCome, starting, Small}
 use Rattle.bwmap.specs.declared.Walk.{Walk}
-use Rattle.bwmap.specs.declared.Answer.the-variants.{Planned as PlannedAnswer}
+use Rattle.bwmap.specs.declared.Planning.the-variants.{Planned as PlannedAnswer}
 use Rattle.series.proofs.Runs.{run-length, series-drop}
 use Rattle.series.proofs.Judged.{planned-full}
 use Rattle.plan.proofs.Lengths.{length-series, length-numbers}
@@ -60,13 +60,13 @@ module _ (own : Own) (m : List ℕ) where
       let d : drop n (rest own m i) ≡ rest own m (i + n) = drop-standings n i (entryCount m - i) ∙ ap (standingsFrom own m (i + n)) e in
       ap seriesOf (sym d) ∙ ap (λ (k : ℕ). seriesOf (drop k (rest own m i))) h ∙ series-drop 15 (rest own m i)
 
--- ---- an outcome, one burst at a time
+-- ---- an finished, one burst at a time
 
-outcome-cons
+finished-cons
     : (p q : List ℕ) (w w′ : Walk) (s : Series) (l : List Series) → q ≡ sets p (4 * w .records) (seriesNumbers s)
     → w′ .records ≡ w .records + entriesIn s → w′ .messages ≡ w .messages + mark (s .head .ploamu) 1 → w′ .around ≡ beyond (w .around) s
-    → outcome q w′ l ≡ outcome p w (s ∷ l)
-outcome-cons p q w w′ s l hq hr hm ha =
+    → finished q w′ l ≡ finished p w (s ∷ l)
+finished-cons p q w w′ s l hq hr hm ha =
     let a = length-series s in
     let at : 4 * w′ .records ≡ 4 * w .records + length (seriesNumbers s) = omega arith in
     let f : sets q (4 * w′ .records) (numbers l) ≡ sets p (4 * w .records) (seriesNumbers s ++ numbers l) =
@@ -128,16 +128,16 @@ module _
       let c : w .records + (r .count + 1) ≡ w .records + entriesIn (seriesAt h (rest own m (at + 1))) = cc count-is in
       let g : w .messages + x ≡ w .messages + mark (h .ploamu) 1 = cc hx in
       rw (← next, here, behind, u)
-      (ap (λ (z : Around). outcome q (record { at = 0; records = w .records + (r .count + 1); messages = w .messages + x; around = record { end = start + words; bursts = w .around .bursts + 1 } }) (planned z (seriesOf (rest own m (at + 1))))) d
-      ∙ outcome-cons p q w (record { at = 0; records = w .records + (r .count + 1); messages = w .messages + x; around = record { end = start + words; bursts = w .around .bursts + 1 } }) (seriesAt h (rest own m (at + 1))) (planned (beyond (w .around) (seriesAt h (rest own m (at + 1)))) (seriesOf (rest own m (at + 1)))) hq c g d)
+      (ap (λ (z : Around). finished q (record { at = 0; records = w .records + (r .count + 1); messages = w .messages + x; around = record { end = start + words; bursts = w .around .bursts + 1 } }) (planned z (seriesOf (rest own m (at + 1))))) d
+      ∙ finished-cons p q w (record { at = 0; records = w .records + (r .count + 1); messages = w .messages + x; around = record { end = start + words; bursts = w .around .bursts + 1 } }) (seriesAt h (rest own m (at + 1))) (planned (beyond (w .around) (seriesAt h (rest own m (at + 1)))) (seriesOf (rest own m (at + 1)))) hq c g d)
 
 -- ---- the end of the walk
 
 module _ (own : Own) (m p : List ℕ) (w : Walk) where
-  pub walk-done : entryCount m ≤ w .at → outcome p w [] ≡ toCome own m p w
+  pub walk-done : entryCount m ≤ w .at → finished p w [] ≡ toCome own m p w
   walk-done h = rw (rest-nil own m (w .at) h)
 
-  pub walk-full : burstsAFrame ≤ w .around .bursts → outcome p w [] ≡ toCome own m p w
+  pub walk-full : burstsAFrame ≤ w .around .bursts → finished p w [] ≡ toCome own m p w
   walk-full h = rw (planned-full (w .around) (seriesOf (rest own m (w .at))) h)
 
   pub move-past
@@ -147,21 +147,21 @@ module _ (own : Own) (m p : List ℕ) (w : Walk) where
 
 -- what the walk has written and counted is the plan
 pub finish
-    : (p q : List ℕ) (w : Walk) (c over : ℕ) (l : List Series) → Small w → planNumbers ≤ length p → outcome q w [] ≡ outcome p (starting c) l → over ≡ carriedOver (w .around .end)
+    : (p q : List ℕ) (w : Walk) (c over : ℕ) (l : List Series) → Small w → planNumbers ≤ length p → finished q w [] ≡ finished p (starting c) l → over ≡ carriedOver (w .around .end)
     → _≡_ {A = PlanLeft}
     (record { answer = PlannedAnswer (record { records = w .records; bursts = w .around .bursts; messages = w .messages; end = w .around .end; carried = over }); plan = q })
     (record { answer = PlannedAnswer (counted c l); plan = written l p })
 finish p q w c over l small room e ho =
-    let hr : w .records ≡ records l = sym (add-zero (w .records)) ∙ ap (λ (o : Outcome). o .records) e ∙ zero-add (records l) in
-    let hb : w .around .bursts ≡ length l = sym (add-zero (w .around .bursts)) ∙ ap (λ (o : Outcome). o .bursts) e ∙ zero-add (length l) in
-    let hm : w .messages ≡ messages l = sym (add-zero (w .messages)) ∙ ap (λ (o : Outcome). o .messages) e ∙ zero-add (messages l) in
-    let he : w .around .end ≡ lastEnd c l = ap (λ (o : Outcome). o .end) e in
+    let hr : w .records ≡ records l = sym (add-zero (w .records)) ∙ ap (λ (o : Finished). o .records) e ∙ zero-add (records l) in
+    let hb : w .around .bursts ≡ length l = sym (add-zero (w .around .bursts)) ∙ ap (λ (o : Finished). o .bursts) e ∙ zero-add (length l) in
+    let hm : w .messages ≡ messages l = sym (add-zero (w .messages)) ∙ ap (λ (o : Finished). o .messages) e ∙ zero-add (messages l) in
+    let he : w .around .end ≡ lastEnd c l = ap (λ (o : Finished). o .end) e in
     let hc : over ≡ carriedOver (lastEnd c l) = ho ∙ ap carriedOver he in
     let fits : 0 + length (numbers l) ≤ length p = omega (arith, length-numbers l, small .few, small .room) in
-    let hq : q ≡ written l p = ap (λ (o : Outcome). o .plan) e ∙ sets-eq (numbers l) p 0 fits ∙ ap (λ (k : ℕ). numbers l ++ drop k p) (zero-add (length (numbers l))) in
+    let hq : q ≡ written l p = ap (λ (o : Finished). o .plan) e ∙ sets-eq (numbers l) p 0 fits ∙ ap (λ (k : ℕ). numbers l ++ drop k p) (zero-add (length (numbers l))) in
     λ i. record { answer = PlannedAnswer (record { records = hr i; bursts = hb i; messages = hm i; end = he i; carried = hc i }); plan = hq i }
 
-pub from-start : (own : Own) (m p : List ℕ) (c : ℕ) → toCome own m p (starting c) ≡ outcome p (starting c) (plannedOf own m c)
+pub from-start : (own : Own) (m p : List ℕ) (c : ℕ) → toCome own m p (starting c) ≡ finished p (starting c) (plannedOf own m c)
 from-start own m p c = rw sub-zero
 
 -- ---- a state that sends nothing

@@ -11,12 +11,12 @@ use borrow.Author.Tests.{le-leb}
 use Rattle.hec.specs.Reads.{word, reading}
 use Rattle.hec.proofs.Nearest.{is-reading}
 use Rattle.hec.proofs.Words.{undamaged}
-use Rattle.framing.specs.Octets.{value, octets}
+use Rattle.octets.specs.Octets.{value, octets}
 use Rattle.xgtc.specs.Layouts.{allocationOf, allocationFits, allocationWord}
-use Rattle.framing.specs.Reads.{fields, short, taken}
+use Rattle.xgem.specs.Reads.{fields, short, taken}
 use Rattle.xgtc.specs.Reads.{readAllocation}
 use Rattle.xgtc.specs.declared.allocation.Allocation.{Allocation}
-use Rattle.framing.proofs.Numbers.{octets-length, value-octets}
+use Rattle.xgem.proofs.Numbers.{octets-length, value-octets}
 use Rattle.xgtc.proofs.Layouts.{allocation-true, allocation-back}
 use Rattle.entries.specs.declared.Own.{Own}
 use Rattle.entries.specs.declared.Standing.{Standing}

@@ -11,11 +11,11 @@ use Rattle.plan.specs.Limits.{planNumbers}
 use Rattle.plan.specs.Plan.{records, messages, written}
 use Rattle.series.specs.Series.{Series, plannedOf, lastEnd, carriedOver}
 use Rattle.bwmap.specs.declared.Plan.{Plan}
-use Rattle.bwmap.specs.declared.Answer.{Answer}
-use Rattle.bwmap.specs.declared.Answer.the-variants.{Planned, PlanTooShort}
+use Rattle.bwmap.specs.declared.Planning.{Planning}
+use Rattle.bwmap.specs.declared.Planning.the-variants.{Planned, PlanTooShort}
 
 pub record PlanLeft : Type 0 where
-  pub answer : Answer
+  pub answer : Planning
   pub plan : List ℕ
 
 abbrev pub counted : ℕ → List Series → Plan
@@ -36,5 +36,5 @@ planOf own m carried plan =
     (record { answer = PlanTooShort; plan = plan })
 
 -- the whole contract of the walk
-abbrev pub MapLeaves : Own → List ℕ → ℕ → List ℕ → Answer → List ℕ → Type 0
+abbrev pub MapLeaves : Own → List ℕ → ℕ → List ℕ → Planning → List ℕ → Type 0
 MapLeaves own m carried plan answer left = record { answer = answer; plan = left } ≡ planOf own m carried plan

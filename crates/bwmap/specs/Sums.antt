@@ -5,7 +5,7 @@ use mathlib.Core.Path.{_≡_}
 use mathlib.Core.Bool.{Bool, true, false}
 use mathlib.Core.List.{List, [], _∷_, _++_}
 use lib.ListN.{replicate}
-use Rattle.framing.specs.Octets.{octets}
+use Rattle.octets.specs.Octets.{octets}
 use Rattle.xgtc.specs.Layouts.{allocationWord}
 use Rattle.xgtc.specs.declared.allocation.Allocation.{Allocation}
 use Rattle.station.specs.declared.Activation.the-variants.{Operation}

@@ -6,7 +6,7 @@ use mathlib.Core.Path.{_≡_}
 use mathlib.Core.List.{List, [], _∷_}
 use lib.ListN.{length}
 use lib.Seq.{sets}
-use Rattle.framing.specs.Reads.{Found, fields, unreadable, short}
+use Rattle.xgem.specs.Reads.{Found, fields, unreadable, short}
 use Rattle.xgtc.specs.declared.allocation.Allocation.{Allocation}
 use Rattle.entries.specs.declared.Own.{Own}
 use Rattle.entries.specs.declared.Standing.{Standing}
@@ -90,15 +90,15 @@ allocationsFrom m i (suc k) = allocationAt m i ∷ allocationsFrom m (suc i) k
 -- ---- what is still to come
 
 -- the numbers of a plan and what is counted, with the series l still to be written
-pub record Outcome : Type 0 where
+pub record Finished : Type 0 where
   pub plan : List ℕ
   pub records : ℕ
   pub bursts : ℕ
   pub messages : ℕ
   pub end : ℕ
 
-abbrev pub outcome : List ℕ → Walk → List Series → Outcome
-outcome p w l =
+abbrev pub finished : List ℕ → Walk → List Series → Finished
+finished p w l =
     record {
       plan = sets p (numbersARecord * w .records) (numbers l);
       records = w .records + records l;
@@ -107,8 +107,8 @@ outcome p w l =
       end = lastEnd (w .around .end) l;
     }
 
-abbrev pub toCome : Own → List ℕ → List ℕ → Walk → Outcome
-toCome own m p w = outcome p w (planned (w .around) (seriesOf (rest own m (w .at))))
+abbrev pub toCome : Own → List ℕ → List ℕ → Walk → Finished
+toCome own m p w = finished p w (planned (w .around) (seriesOf (rest own m (w .at))))
 
 -- where a walk begins: the words carried over stand for the last burst
 abbrev pub starting : ℕ → Walk

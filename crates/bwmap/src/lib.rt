@@ -11,7 +11,7 @@ ghost use lib.ListN.{length};
 ghost use mathlib.Core.List.{[]};
 ghost use Rattle.plan.specs.Limits.{planNumbers};
 ghost use Rattle.series.specs.Series.{entryCount, carriedOver};
-ghost use Rattle.bwmap.specs.Turns.{outcome, toCome, starting, Small};
+ghost use Rattle.bwmap.specs.Turns.{finished, toCome, starting, Small};
 ghost use Rattle.bwmap.specs.Plan.{MapLeaves};
 use search::Next;
 use series::Around;
@@ -30,7 +30,7 @@ pub struct Plan {
     pub carried: u16,
 }
 
-pub enum Answer {
+pub enum Planning {
     Planned(Plan),
     PlanTooShort,
 }
@@ -88,7 +88,7 @@ fn turn(map: &[u8], own: Own, w: Walk, plan: &mut [u16]) -> Walk
 // The walk over the whole map. Once the last burst that a frame may have is planned, every series is passed over.
 fn walk_map(map: &[u8], own: Own, carried: u16, plan: &mut [u16]) -> Walk
     requires { ⌜ planNumbers ≤ length (now plan) ⌝ }
-    ensures { λ r. ⌜ Small r × (outcome (now (plan .exit)) r [] ≡ toCome own (now (map .entry)) (now (plan .entry)) (starting carried)) ⌝ }
+    ensures { λ r. ⌜ Small r × (finished (now (plan .exit)) r [] ≡ toCome own (now (map .entry)) (now (plan .entry)) (starting carried)) ⌝ }
 {
     let mut w = Walk {
         at: 0,
@@ -111,16 +111,16 @@ fn walk_map(map: &[u8], own: Own, carried: u16, plan: &mut [u16]) -> Walk
 }
 
 // The plan of a map: records of four numbers at the start of the lent plan, the rest of which keeps its content.
-pub fn plan_map(map: &[u8], own: Own, carried: u16, plan: &mut [u16]) -> Answer
+pub fn plan_map(map: &[u8], own: Own, carried: u16, plan: &mut [u16]) -> Planning
     ensures { λ r. ⌜ MapLeaves own (now (map .entry)) carried (now (plan .entry)) r (now (plan .exit)) ⌝ }
 {
     if plan.len() < plan::PLAN_NUMBERS {
-        return Answer::PlanTooShort;
+        return Planning::PlanTooShort;
     }
     let activation = own.activation;
     if activation.is_silent() {
         let end = search::long(carried);
-        return Answer::Planned(Plan {
+        return Planning::Planned(Plan {
             records: 0,
             bursts: 0,
             messages: 0,
@@ -130,7 +130,7 @@ pub fn plan_map(map: &[u8], own: Own, carried: u16, plan: &mut [u16]) -> Answer
     }
     let w = walk_map(map, own, carried, plan);
     let last = w.around;
-    Answer::Planned(Plan {
+    Planning::Planned(Plan {
         records: w.records,
         bursts: last.bursts,
         messages: w.messages,

@@ -17,7 +17,7 @@ use Rattle.bch.specs.Code.{remainderFrom}
 use Rattle.flips.proofs.FlipRule.{flips}
 use Rattle.xgtc.specs.declared.hlend.Hlend.{Hlend}
 use Rattle.xgtc.specs.Layouts.{hlendOf}
-use Rattle.framing.specs.Reads.{fields, taken}
+use Rattle.xgem.specs.Reads.{fields, taken}
 use Rattle.xgtc.specs.Reads.{readHlend}
 use Rattle.ploam.specs.Layout.{messageOctets, coveredOctets, addressOf, typeOf}
 use Rattle.integrity.specs.Integrity.{covered, micOf, micRight, defaultKey, byDefault, installedKey, genuine}
@@ -43,11 +43,11 @@ use Rattle.decisions.specs.Ranging.{rangingTime}
 use Rattle.decisions.specs.Decisions.{assignOnuId, assignAllocId, isBroadcast, isOurs, effectOf}
 use Rattle.effects.specs.Changes.{identify, range, applied}
 use Rattle.decisions.specs.Acts.{act}
-use Rattle.activation.specs.Receiving.{acting, receive, messagesFrom, messagesIn, receiveAll}
+use Rattle.messages.specs.Receiving.{acting, receive, messagesFrom, messagesIn, receiveAll}
 use Rattle.downstream.specs.Lengths.{lengthFits}
-use Rattle.arrival.specs.Given.{enough}
+use Rattle.frame.specs.Given.{enough}
 use Rattle.downstream.specs.Partitions.{messagesOf}
-use Rattle.arrival.specs.Frame.{plannedIn, repliesIn, payloadIn, foundBy, next, done, handled, frameLeft}
+use Rattle.frame.specs.Frame.{plannedIn, repliesIn, payloadIn, foundBy, next, done, handled, frameLeft}
 use Rattle.engine.specs.Answers.{lostIn, Handled}
 use Rattle.demands.proofs.RefutingRuns.{serial, registration, memory, buffers, lent, arrives, Leads, led, searching, searching-in-range}
 

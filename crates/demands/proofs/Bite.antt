@@ -11,7 +11,7 @@ use mathlib.Core.Bool.{true≢false}
 use mathlib.Core.List.{List, [], _∷_}
 use lib.ListN.{length, take}
 use Rattle.xgtc.specs.declared.hlend.Hlend.{Hlend}
-use Rattle.framing.specs.Reads.{Found, fields, unreadable, short}
+use Rattle.xgem.specs.Reads.{Found, fields, unreadable, short}
 use Rattle.xgtc.specs.Reads.{readHlend}
 use Rattle.station.specs.declared.answers.Answer.the-variants.{Done, StateOutOfRange, DelineationLost}
 use Rattle.station.specs.declared.Station.{Station}
@@ -20,10 +20,10 @@ use Rattle.series.specs.Series.{Series}
 use Rattle.plan.specs.Records.{headFlags, burstFlags}
 use Rattle.plan.specs.Plan.{records, seriesNumbers, written}
 use Rattle.plan.specs.Laser.{Sending, opens, granted, sending, laser}
-use Rattle.conduct.proofs.InRange.{sound-in-range, power-on-sound}
+use Rattle.invariants.proofs.InRange.{sound-in-range, power-on-sound}
 use Rattle.ledger.proofs.Runs.{ledger-exact}
 use Rattle.ledger.proofs.Plan.{always-ours}
-use Rattle.arrival.specs.Frame.{FrameLeft, plannedIn, done, handled, frameLeft}
+use Rattle.frame.specs.Frame.{FrameLeft, plannedIn, done, handled, frameLeft}
 use Rattle.demands.specs.Runs.{Call, frame, lost, addPort, removePort, giveKey, Progress, start, runOf}
 use Rattle.demands.specs.Demand1.{Demand1}
 use Rattle.demands.specs.Demand2.{Demand2}

@@ -17,7 +17,7 @@ use Rattle.flips.proofs.FlipRule.{flips}
 use Rattle.xgtc.specs.declared.allocation.Allocation.{Allocation}
 use Rattle.xgtc.specs.declared.hlend.Hlend.{Hlend}
 use Rattle.xgtc.specs.Layouts.{hlendOf, allocationOf}
-use Rattle.framing.specs.Reads.{Found, fields, taken}
+use Rattle.xgem.specs.Reads.{Found, fields, taken}
 use Rattle.xgtc.specs.Reads.{readHlend}
 use Rattle.station.specs.declared.Activation.the-variants.{Operation, Intermittent}
 use Rattle.station.specs.declared.Station.{Station}
@@ -26,7 +26,7 @@ use Rattle.link.specs.declared.Allocs.{Allocs}
 use Rattle.station.specs.Limits.{to2}
 use Rattle.link.specs.Link.{noAllocs}
 use Rattle.ports.specs.Ports.{noPorts}
-use Rattle.ranges.specs.Ranges.{inRange, identityFits, allocsFit, portsFit, partialsFit, slotFits, partialFits}
+use Rattle.validity.specs.Ranges.{inRange, identityFits, allocsFit, portsFit, partialsFit, slotFits, partialFits}
 use Rattle.timing.specs.Timing.{frameEnd, lostState, lostTime, silence}
 use Rattle.entries.specs.Standings.{standing, sorted, startUnfit, noRoom, continues, held}
 use Rattle.series.specs.Series.{Series, entryAt, standings, seriesOf, arriving, planned, wordsOf}
@@ -38,9 +38,9 @@ use Rattle.ledger.specs.Events as event
 use Rattle.station.specs.declared.answers.Outcome.{Outcome}
 use Rattle.payload.specs.Frames.{parse}
 use Rattle.downstream.specs.Lengths.{lengthFits}
-use Rattle.arrival.specs.Given.{enough}
+use Rattle.frame.specs.Given.{enough}
 use Rattle.downstream.specs.Partitions.{mapOf}
-use Rattle.arrival.specs.Frame.{FrameLeft, ownOf, plannedIn, repliesIn, payloadIn, foundBy, next, done, handled, frameLeft}
+use Rattle.frame.specs.Frame.{FrameLeft, ownOf, plannedIn, repliesIn, payloadIn, foundBy, next, done, handled, frameLeft}
 use Rattle.engine.specs.Lods.{lostLeft}
 use Rattle.engine.specs.Answers.{lostIn, Handled}
 use Rattle.engine.proofs.Table.{only}

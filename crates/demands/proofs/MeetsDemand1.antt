@@ -9,14 +9,14 @@ use lib.ListN.{length}
 use borrow.Author.Tests.{leb-true, leb-false}
 use Rattle.ids.specs.Ids.{managementPort}
 use Rattle.xgtc.specs.declared.hlend.Hlend.{Hlend}
-use Rattle.framing.specs.Reads.{Found, fields, unreadable, short}
+use Rattle.xgem.specs.Reads.{Found, fields, unreadable, short}
 use Rattle.xgtc.specs.Reads.{readHlend}
-use Rattle.framing.specs.declared.words.Written.the-variants.{Done as WriteDone, Refused as WriteRefused}
-use Rattle.framing.specs.Octets.{octets}
-use Rattle.framing.specs.Layouts.{xgemFits, xgemWord}
+use Rattle.xgem.specs.declared.words.Written.the-variants.{Done as WriteDone, Refused as WriteRefused}
+use Rattle.octets.specs.Octets.{octets}
+use Rattle.xgem.specs.Layouts.{xgemFits, xgemWord}
 use Rattle.xgtc.specs.Layouts.{hlendFits, hlendWord, allocationFits, allocationWord}
-use Rattle.framing.specs.Writes as writing
-use Rattle.framing.specs.Writes.{put, wrote, carrying, xgemFrame}
+use Rattle.xgem.specs.Writes as writing
+use Rattle.xgem.specs.Writes.{put, wrote, carrying, xgemFrame}
 use Rattle.ids.specs.declared.PortId.{PortId}
 use Rattle.ids.specs.Ids.{assignablePort}
 use Rattle.station.specs.declared.answers.Answer.{Answer}
@@ -26,7 +26,7 @@ use Rattle.station.specs.States.{holdsIdentity, isOperating}
 use Rattle.link.specs.Link.{withKey, installed}
 use Rattle.ports.specs.Ports.{portPlace, vacancy, addPort, removePort}
 use Rattle.station.specs.Station.{withLink, withPorts}
-use Rattle.ranges.specs.Ranges.{inRange}
+use Rattle.validity.specs.Ranges.{inRange}
 use Rattle.timing.specs.Timing.{lostTime}
 use Rattle.station.specs.declared.answers.Outcome.{Outcome}
 use Rattle.ids.specs.Places.{isHeld}
@@ -149,7 +149,7 @@ write-row fit octets t = go fit refl (leb (length octets) (length t)) refl
   where
     go
         : (a : Bool) → fit ≡ a → (b : Bool) → leb (length octets) (length t) ≡ b
-        → let o = cond {A = writing.Left} (a && b) (record { answer = WriteDone; target = put t octets }) (record { answer = WriteRefused; target = t }) in
+        → let o = cond {A = writing.WriteLeft} (a && b) (record { answer = WriteDone; target = put t octets }) (record { answer = WriteRefused; target = t }) in
         WriteRow fit octets t (o .answer) (o .target)
     go true p true q = (p, q, refl)
     go true p false q = (rw (p, q), refl)

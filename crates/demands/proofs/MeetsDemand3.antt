@@ -11,7 +11,7 @@ use Rattle.ledger.specs.Events.{stationOf}
 use Rattle.ledger.proofs.Runs.{ledger-exact}
 use Rattle.ledger.proofs.Plan.{always-ours, always-numbered}
 use Rattle.downstream.specs.Partitions.{mapOf}
-use Rattle.arrival.specs.Frame.{frameLeft}
+use Rattle.frame.specs.Frame.{frameLeft}
 use Rattle.engine.proofs.Table.{table}
 use Rattle.demands.specs.Engine.{lingbarrow}
 use Rattle.demands.specs.Runs.{Call, Buffers, Progress, lend, start, runOf}
@@ -19,7 +19,7 @@ use Rattle.demands.specs.Demand3.{sendings, Obeys, Plans, Demand3}
 use Rattle.demands.proofs.Runs.{always-kept, started}
 use Rattle.demands.proofs.Planning.{obeys, nothing-sent}
 use Rattle.demands.proofs.Timeline.{no-word-shared}
-use Rattle.arrival.specs.Given.{Arrival}
+use Rattle.frame.specs.Given.{Arrival}
 
 module _ (serial registration memory : List ℕ) (calls : List Call) (arrival : Arrival) (b : Buffers) where
   st : Progress

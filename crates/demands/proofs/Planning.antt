@@ -7,7 +7,7 @@ use mathlib.Core.Bool.{Bool, true, false}
 use mathlib.Core.List.{List, [], _∷_}
 use Rattle.xgtc.specs.declared.allocation.Allocation.{Allocation}
 use Rattle.xgtc.specs.declared.hlend.Hlend.{Hlend}
-use Rattle.framing.specs.Reads.{Found, fields, unreadable, short}
+use Rattle.xgem.specs.Reads.{Found, fields, unreadable, short}
 use Rattle.xgtc.specs.Reads.{readHlend}
 use Rattle.station.specs.declared.Station.{Station}
 use Rattle.station.specs.declared.answers.Answer.{Answer}
@@ -19,9 +19,9 @@ use Rattle.bwmap.proofs.Kept.{planned-ours, every-series-accounted}
 use Rattle.plan.proofs.ReadBack.{laser-obeys}
 use Rattle.ledger.specs.Events.{Event, stationOf}
 use Rattle.ledger.specs.Plan.{ownAt, NumberOf}
-use Rattle.arrival.specs.Given.{Arrival, Lent}
+use Rattle.frame.specs.Given.{Arrival, Lent}
 use Rattle.downstream.specs.Partitions.{mapOf}
-use Rattle.arrival.specs.Frame.{FrameLeft, plannedIn, done, handled}
+use Rattle.frame.specs.Frame.{FrameLeft, plannedIn, done, handled}
 use Rattle.engine.specs.Answers.{Handled, Row}
 use Rattle.demands.specs.Demand3.{sendings, Numbered, Planned, AllPlanned, Obeys}
 

@@ -16,7 +16,7 @@ use Rattle.bch.specs.Code.{remainderFrom}
 use Rattle.flips.proofs.FlipRule.{flips}
 use Rattle.xgtc.specs.declared.hlend.Hlend.{Hlend}
 use Rattle.xgtc.specs.Layouts.{hlendOf}
-use Rattle.framing.specs.Reads.{fields, taken}
+use Rattle.xgem.specs.Reads.{fields, taken}
 use Rattle.xgtc.specs.Reads.{readHlend}
 use Rattle.station.specs.declared.Activation.the-variants.{SerialNumber}
 use Rattle.station.specs.declared.Station.{Station}
@@ -24,7 +24,7 @@ use Rattle.station.specs.declared.answers.Answer.{Answer}
 use Rattle.station.specs.declared.answers.Answer.the-variants.{Done}
 use Rattle.station.specs.Limits.{serialOctets, registrationOctets}
 use Rattle.station.specs.Station.{powerOn, enter}
-use Rattle.ranges.specs.Ranges.{inRange}
+use Rattle.validity.specs.Ranges.{inRange}
 use Rattle.timing.specs.Timing.{frameEnd}
 use Rattle.payload.specs.Frames.{parse}
 use Rattle.payload.specs.Walk.{memoryBytes}
@@ -34,14 +34,14 @@ use Rattle.series.specs.Series.{Series, standings, seriesOf, burstWords, arrivi
 use Rattle.plan.specs.Limits.{planNumbers}
 use Rattle.bwmap.specs.Promises.{Account, done as none-left, plans, too-long, overlapping, after-the-last}
 use Rattle.plan.specs.Laser.{Sending, burstsOf}
-use Rattle.conduct.proofs.InRange.{sound-in-range, power-on-sound, enter-sound}
+use Rattle.invariants.proofs.InRange.{sound-in-range, power-on-sound, enter-sound}
 use Rattle.ledger.specs.Events.{stationOf}
 use Rattle.station.specs.declared.answers.Outcome.{Outcome}
 use Rattle.downstream.specs.Lengths.{lengthFits}
-use Rattle.arrival.specs.Given.{Arrival, Lent, arriving, lending, replyOctets, enough}
+use Rattle.frame.specs.Given.{Arrival, Lent, arriving, lending, replyOctets, enough}
 use Rattle.downstream.specs.Partitions.{mapOf}
 use Rattle.station.specs.States.{isOperating}
-use Rattle.arrival.specs.Frame.{FrameLeft, ownOf, plannedIn, repliesIn, payloadIn, foundBy, next, done, handled, frameLeft}
+use Rattle.frame.specs.Frame.{FrameLeft, ownOf, plannedIn, repliesIn, payloadIn, foundBy, next, done, handled, frameLeft}
 use Rattle.engine.specs.Answers.{lostIn, Handled}
 use Rattle.engine.proofs.Table.{only}
 use Rattle.demands.specs.Runs.{Call, Buffers, frame, Progress, befell, lend, after, start, runOf}

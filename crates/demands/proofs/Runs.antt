@@ -5,25 +5,25 @@ use mathlib.Core.Path.{_≡_, _∙_, refl, sym, ap, subst}
 use mathlib.Core.Bool.{Bool, true, false}
 use mathlib.Core.List.{List, [], _∷_}
 use Rattle.xgtc.specs.declared.hlend.Hlend.{Hlend}
-use Rattle.framing.specs.Reads.{Found, fields}
+use Rattle.xgem.specs.Reads.{Found, fields}
 use Rattle.xgtc.specs.Reads.{readHlend}
 use Rattle.station.specs.declared.Station.{Station}
 use Rattle.station.specs.declared.answers.Answer.{Answer}
 use Rattle.station.specs.declared.answers.Answer.the-variants.{Done, StateOutOfRange, FrameLengthUnfit, BufferTooShort, HlendUnreadable, HeaderTooLong, DelineationLost, PortOutOfRange, PortHeldOrNotHeld, SlotsTaken, KeyRefused, NotWritten}
 use Rattle.station.specs.Station.{powerOn}
-use Rattle.ranges.specs.Ranges.{inRange}
+use Rattle.validity.specs.Ranges.{inRange}
 use Rattle.timing.specs.Timing.{lostTime}
-use Rattle.activation.specs.Receiving.{messagesIn}
+use Rattle.messages.specs.Receiving.{messagesIn}
 use Rattle.series.specs.Series.{lastEnd, carriedOver}
 use Rattle.plan.specs.Plan.{messages}
-use Rattle.conduct.proofs.InRange.{Sound, sound-in-range, power-on-sound}
-use Rattle.conduct.proofs.InRangeHost.{add-sound, remove-sound, key-sound}
+use Rattle.invariants.proofs.InRange.{Sound, sound-in-range, power-on-sound}
+use Rattle.invariants.proofs.InRangeHost.{add-sound, remove-sound, key-sound}
 use Rattle.ledger.specs.Events.{Event, stationOf}
 use Rattle.ledger.proofs.Frames.{frame-left}
-use Rattle.arrival.specs.Given.{Arrival, Lent}
+use Rattle.frame.specs.Given.{Arrival, Lent}
 use Rattle.downstream.specs.Partitions.{messagesOf}
 use Rattle.station.specs.States.{isRanging}
-use Rattle.arrival.specs.Frame.{FrameLeft, plannedIn, repliesIn, payloadIn, foundBy, next, done, handled, frameLeft}
+use Rattle.frame.specs.Frame.{FrameLeft, plannedIn, repliesIn, payloadIn, foundBy, next, done, handled, frameLeft}
 use Rattle.engine.specs.Lods.{lostLeft}
 use Rattle.engine.specs.Answers.{Handled, Row}
 use Rattle.engine.proofs.Ranged.{frame-sound, lost-call-sound}

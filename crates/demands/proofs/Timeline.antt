@@ -12,7 +12,7 @@ use Rattle.station.specs.declared.answers.Answer.{Answer}
 use Rattle.station.specs.declared.answers.Answer.the-variants.{Done, StateOutOfRange, FrameLengthUnfit, BufferTooShort, HlendUnreadable, HeaderTooLong, DelineationLost, PortOutOfRange, PortHeldOrNotHeld, SlotsTaken, KeyRefused, NotWritten}
 use Rattle.station.specs.Limits.{upstreamWords}
 use Rattle.timing.specs.Timing.{silence, lostTime, unreadTime}
-use Rattle.activation.specs.Receiving.{receiveAll, messagesIn}
+use Rattle.messages.specs.Receiving.{receiveAll, messagesIn}
 use Rattle.series.specs.Limits.{ploamuWords}
 use Rattle.series.specs.Series.{Series, grants, wordsOf, burstWords, plannedOf}
 use Rattle.plan.specs.Laser.{grantsOf, burstOf, burstsOf}
@@ -20,11 +20,11 @@ use Rattle.bwmap.specs.Upstream.{FrameTime, dark, Burst, carry, bursts, takers}
 use Rattle.bwmap.specs.Upstream as upstream
 use Rattle.bwmap.proofs.Once.{times-apart, at-most-one}
 use Rattle.plan.proofs.ReadBack.{laser-obeys}
-use Rattle.conduct.proofs.InRange.{Sound}
-use Rattle.arrival.specs.Given.{Arrival, Lent}
+use Rattle.invariants.proofs.InRange.{Sound}
+use Rattle.frame.specs.Given.{Arrival, Lent}
 use Rattle.downstream.specs.Partitions.{mapOf, messagesOf}
 use Rattle.station.specs.States.{isRanging}
-use Rattle.arrival.specs.Frame.{FrameLeft, ownOf, plannedIn, foundBy, next, done, handled, frameLeft}
+use Rattle.frame.specs.Frame.{FrameLeft, ownOf, plannedIn, foundBy, next, done, handled, frameLeft}
 use Rattle.engine.specs.Answers.{Handled, Row}
 use Rattle.engine.proofs.Ranged.{carried-low}
 use Rattle.engine.proofs.Table.{table}

@@ -15,7 +15,7 @@ use Rattle.flips.proofs.FlipRule.{flips}
 use Rattle.xgtc.specs.declared.allocation.Allocation.{Allocation}
 use Rattle.xgtc.specs.declared.hlend.Hlend.{Hlend}
 use Rattle.xgtc.specs.Layouts.{hlendOf, allocationOf}
-use Rattle.framing.specs.Reads.{Found, fields, taken}
+use Rattle.xgem.specs.Reads.{Found, fields, taken}
 use Rattle.xgtc.specs.Reads.{readHlend}
 use Rattle.station.specs.declared.Station.{Station}
 use Rattle.station.specs.declared.answers.Answer.the-variants.{Done}
@@ -24,9 +24,9 @@ use Rattle.series.specs.Series.{Series, entryAt, standings, seriesOf, arriving,
 use Rattle.bwmap.specs.Promises.{Account}
 use Rattle.plan.specs.Laser.{burstsOf}
 use Rattle.downstream.specs.Lengths.{lengthFits}
-use Rattle.arrival.specs.Given.{Arrival, Lent, enough}
+use Rattle.frame.specs.Given.{Arrival, Lent, enough}
 use Rattle.downstream.specs.Partitions.{mapOf}
-use Rattle.arrival.specs.Frame.{FrameLeft, ownOf, plannedIn, handled, frameLeft}
+use Rattle.frame.specs.Frame.{FrameLeft, ownOf, plannedIn, handled, frameLeft}
 use Rattle.engine.specs.Lods.{lostLeft}
 use Rattle.engine.specs.Answers.{lostIn, Handled}
 use Rattle.engine.proofs.Table.{only}

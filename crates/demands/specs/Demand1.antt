@@ -10,14 +10,14 @@ use lib.Dec.{leb}
 use lib.ListN.{length}
 use Rattle.xgtc.specs.declared.hlend.Hlend.{Hlend}
 use Rattle.xgtc.specs.declared.allocation.Allocation.{Allocation}
-use Rattle.framing.specs.declared.xgem.XgemHeader.{XgemHeader}
-use Rattle.framing.specs.declared.words.Written.{Written}
-use Rattle.framing.specs.declared.words.Written.the-variants.{Done as WriteDone, Refused}
-use Rattle.framing.specs.Octets.{octets}
-use Rattle.framing.specs.Layouts.{xgemFits, xgemWord}
+use Rattle.xgem.specs.declared.frame.XgemHeader.{XgemHeader}
+use Rattle.xgem.specs.declared.words.Written.{Written}
+use Rattle.xgem.specs.declared.words.Written.the-variants.{Done as WriteDone, Refused}
+use Rattle.octets.specs.Octets.{octets}
+use Rattle.xgem.specs.Layouts.{xgemFits, xgemWord}
 use Rattle.xgtc.specs.Layouts.{hlendFits, hlendWord, allocationFits, allocationWord}
-use Rattle.framing.specs.Writes.{put, carrying, xgemFrame}
-use Rattle.framing.specs.Reads.{fields, unreadable}
+use Rattle.xgem.specs.Writes.{put, carrying, xgemFrame}
+use Rattle.xgem.specs.Reads.{fields, unreadable}
 use Rattle.xgtc.specs.Reads.{readHlend}
 use Rattle.ids.specs.declared.PortId.{PortId}
 use Rattle.ids.specs.Ids.{assignablePort}
@@ -28,12 +28,12 @@ use Rattle.station.specs.States.{holdsIdentity}
 use Rattle.link.specs.Link.{withKey, installed}
 use Rattle.ports.specs.Ports.{portPlace, vacancy, addPort, removePort}
 use Rattle.station.specs.Station.{withLink, withPorts}
-use Rattle.ranges.specs.Ranges.{inRange}
+use Rattle.validity.specs.Ranges.{inRange}
 use Rattle.timing.specs.Timing.{lostTime}
 use Rattle.ids.specs.Places.{isHeld}
 use Rattle.payload.specs.Frames.{parse}
 use Rattle.downstream.specs.Lengths.{lengthFits}
-use Rattle.arrival.specs.Given.{Arrival, Lent}
+use Rattle.frame.specs.Given.{Arrival, Lent}
 use Rattle.downstream.specs.Partitions.{headerEnd, payloadOf}
 use Rattle.station.specs.States.{isOperating}
 use Rattle.engine.specs.Answers.{Row}

@@ -11,7 +11,7 @@ use mathlib.Core.Logic.{_⊎_}
 use mathlib.Core.List.{List, [], _∷_, _++_}
 use Rattle.xgtc.specs.declared.allocation.Allocation.{Allocation}
 use Rattle.xgtc.specs.declared.hlend.Hlend.{Hlend}
-use Rattle.framing.specs.Reads.{fields}
+use Rattle.xgem.specs.Reads.{fields}
 use Rattle.xgtc.specs.Reads.{readHlend}
 use Rattle.station.specs.declared.Station.{Station}
 use Rattle.station.specs.declared.answers.Answer.{Answer}
@@ -27,9 +27,9 @@ use Rattle.bwmap.specs.Upstream.{Burst, takers}
 use Rattle.ledger.specs.Events.{Event, stationOf}
 use Rattle.ledger.specs.Promises.{Exact}
 use Rattle.ledger.specs.Plan.{ownAt, Listed, Discovery, OursAfter}
-use Rattle.arrival.specs.Given.{Arrival}
+use Rattle.frame.specs.Given.{Arrival}
 use Rattle.downstream.specs.Partitions.{mapOf}
-use Rattle.arrival.specs.Frame.{FrameLeft}
+use Rattle.frame.specs.Frame.{FrameLeft}
 use Rattle.demands.specs.Engine.{Engine}
 use Rattle.demands.specs.Runs.{Call, frame, lost, addPort, removePort, giveKey, Buffers, Progress, lend, after, runOf, start}
 

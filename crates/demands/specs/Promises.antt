@@ -8,8 +8,8 @@ use lib.ListN.{length, drop}
 use Rattle.ploam.specs.Layout.{messageOctets}
 use Rattle.station.specs.declared.Station.{Station}
 use Rattle.station.specs.Limits.{registrationOctets}
-use Rattle.ranges.specs.Ranges.{inRange}
-use Rattle.arrival.specs.Given.{Arrival, Lent, withOctets}
+use Rattle.validity.specs.Ranges.{inRange}
+use Rattle.frame.specs.Given.{Arrival, Lent, withOctets}
 use Rattle.engine.specs.Alike.{AlikeFrames}
 use Rattle.engine.specs.Counts.{Counted}
 use Rattle.demands.specs.Engine.{Engine}

@@ -5,20 +5,20 @@ use mathlib.Core.Bool.{Bool, true, false, cond}
 use mathlib.Core.List.{List, [], _∷_}
 use Rattle.ids.specs.declared.PortId.{PortId}
 use Rattle.xgtc.specs.declared.hlend.Hlend.{Hlend}
-use Rattle.framing.specs.Reads.{Found, fields, unreadable, short}
+use Rattle.xgem.specs.Reads.{Found, fields, unreadable, short}
 use Rattle.xgtc.specs.Reads.{readHlend}
 use Rattle.station.specs.declared.Station.{Station}
 use Rattle.station.specs.declared.answers.Answer.{Answer}
 use Rattle.station.specs.declared.answers.Answer.the-variants.{Done, StateOutOfRange, FrameLengthUnfit, BufferTooShort, HlendUnreadable, HeaderTooLong, DelineationLost, PortOutOfRange, PortHeldOrNotHeld, SlotsTaken, KeyRefused, NotWritten}
-use Rattle.activation.specs.Receiving.{messagesIn}
+use Rattle.messages.specs.Receiving.{messagesIn}
 use Rattle.series.specs.Series.{lastEnd, carriedOver}
 use Rattle.plan.specs.Plan.{messages}
 use Rattle.ledger.specs.Events.{Event, unread, portAdded, portRemoved, keyGiven, stationOf}
 use Rattle.ledger.specs.Events as event
-use Rattle.arrival.specs.Given.{Arrival, Lent, lending}
+use Rattle.frame.specs.Given.{Arrival, Lent, lending}
 use Rattle.downstream.specs.Partitions.{messagesOf}
 use Rattle.station.specs.States.{isRanging}
-use Rattle.arrival.specs.Frame.{plannedIn, payloadIn}
+use Rattle.frame.specs.Frame.{plannedIn, payloadIn}
 use Rattle.demands.specs.Engine.{Engine}
 
 -- what a caller lends to one frame call beside the port memory

@@ -5,17 +5,17 @@ use Prim.Native.Nat.{ℕ, _+_}
 use mathlib.Core.List.{List, _∷_}
 use lib.ListN.{take, drop}
 use Rattle.xgtc.specs.declared.hlend.Hlend.{Hlend}
-use Rattle.framing.specs.Reads.{Found, fields, unreadable, short}
+use Rattle.xgem.specs.Reads.{Found, fields, unreadable, short}
 use Rattle.xgtc.specs.Reads.{readHlend}
-use Rattle.framing.specs.Writes as writing
-use Rattle.framing.specs.declared.words.Written.the-variants as Written
+use Rattle.xgem.specs.Writes as writing
+use Rattle.xgem.specs.declared.words.Written.the-variants as Written
 use Rattle.station.specs.declared.Station.{Station}
 use Rattle.station.specs.declared.answers.Answer.the-variants.{StateOutOfRange}
 use Rattle.link.specs.Link.{noAllocs, withAllocs}
 use Rattle.station.specs.Station.{withLink}
 use Rattle.station.specs.declared.answers.Outcome.{Outcome}
-use Rattle.arrival.specs.Given.{Arrival, Lent}
-use Rattle.arrival.specs.Frame.{FrameLeft, refused, plannedIn, repliesIn, payloadIn, done, frameLeft}
+use Rattle.frame.specs.Given.{Arrival, Lent}
+use Rattle.frame.specs.Frame.{FrameLeft, refused, plannedIn, repliesIn, payloadIn, done, frameLeft}
 use Rattle.engine.specs.Lods.{lostLeft}
 use Rattle.demands.specs.Engine.{Engine, lingbarrow}
 
@@ -59,7 +59,7 @@ abbrev pub writesNothing : Engine
 writesNothing = withFrame (λ s a lent. record { outcome = frameLeft s a lent .outcome; counts = frameLeft s a lent .counts; lent = lent })
 
 -- the same of the writers: each says that it has written, and the target is as it was
-abbrev pub unwritten : List ℕ → writing.Left
+abbrev pub unwritten : List ℕ → writing.WriteLeft
 unwritten target = record { answer = Written.Done; target = target }
 
 abbrev pub writesNoHeader : Engine

@@ -38,7 +38,7 @@ fn by_hlend(read: HlendRead, octets: usize) -> Opening
 pub fn open(s: Station, frame: &[u8], room: bool) -> Opening
     ensures { λ r. ⌜ r ≡ opening s (now (frame .entry)) room ⌝ }
 {
-    if !ranges::in_range(s) {
+    if !validity::in_range(s) {
         return Opening::Refused(Answer::StateOutOfRange);
     }
     if !lengths::length_fits(frame.len()) {

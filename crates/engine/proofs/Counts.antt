@@ -9,12 +9,12 @@ use lib.ListN.{length, take, drop, length-drop, length-take}
 use Rattle.ids.specs.declared.PortId.{PortId}
 use Rattle.ids.specs.Ids.{managementPort}
 use Rattle.xgtc.specs.declared.hlend.Hlend.{Hlend}
-use Rattle.framing.specs.Layouts.{payloadSize}
-use Rattle.framing.proofs.Frames.{covers}
+use Rattle.xgem.specs.Layouts.{payloadSize}
+use Rattle.xgem.proofs.Frames.{covers}
 use Rattle.station.specs.declared.Station.{Station}
 use Rattle.station.specs.declared.answers.Answer.{Answer}
 use Rattle.station.specs.States.{isOperating}
-use Rattle.conduct.proofs.InRange.{Sound, sound-in-range}
+use Rattle.invariants.proofs.InRange.{Sound, sound-in-range}
 use Rattle.plan.specs.Plan as plan
 use Rattle.plan.proofs.Lengths.{length-numbers}
 use Rattle.payload.specs.declared.frames.Next.{Next}
@@ -34,10 +34,10 @@ use Rattle.downstream.specs.declared.Opening.the-variants.{Refused, Unread, Ope
 use Rattle.downstream.specs.Partitions.{headerEnd, payloadOf}
 use Rattle.downstream.specs.Opening.{opening}
 use Rattle.downstream.proofs.Laws.{opened}
-use Rattle.arrival.specs.Given.{Arrival, Lent, buffersFit}
-use Rattle.arrival.specs.Frame.{refused, plannedIn, repliesIn, payloadIn, done, handled, byOpening, frameLeft}
+use Rattle.frame.specs.Given.{Arrival, Lent, buffersFit}
+use Rattle.frame.specs.Frame.{refused, plannedIn, repliesIn, payloadIn, done, handled, byOpening, frameLeft}
 use Rattle.engine.specs.Counts.{Counted}
-use Rattle.arrival.proofs.Laws.{Room, room, partials-within}
+use Rattle.frame.proofs.Laws.{Room, room, partials-within}
 
 -- ---- what the frames of a payload deliver is no more than the payload
 

@@ -5,10 +5,10 @@ use mathlib.Core.Path.{_≡_, _∙_, sym, ap}
 use mathlib.Core.List.{List}
 use Rattle.station.specs.declared.Station.{Station}
 use Rattle.station.specs.declared.answers.Outcome.{Outcome}
-use Rattle.arrival.specs.declared.FrameOutcome.{FrameOutcome}
+use Rattle.frame.specs.declared.FrameOutcome.{FrameOutcome}
 use Rattle.engine.specs.declared.stretching.StretchPlace.{StretchPlace}
-use Rattle.arrival.specs.Given.{Arrival, Lent}
-use Rattle.arrival.specs.Frame.{FrameLeft, FrameLeaves}
+use Rattle.frame.specs.Given.{Arrival, Lent}
+use Rattle.frame.specs.Frame.{FrameLeft, FrameLeaves}
 use Rattle.engine.specs.Lods.{LostLeaves}
 use Rattle.engine.specs.Stretch.{PlaceIs, StretchIs}
 

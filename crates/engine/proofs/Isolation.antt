@@ -12,14 +12,14 @@ use borrow.Author.Tests.{le-leb}
 use Rattle.ids.specs.Ids.{managementPort}
 use Rattle.xgtc.specs.declared.hlend.Hlend.{Hlend}
 use Rattle.xgtc.specs.Layouts.{hlendOf}
-use Rattle.framing.specs.Octets.{value}
-use Rattle.framing.specs.Reads.{fields, taken}
+use Rattle.octets.specs.Octets.{value}
+use Rattle.xgem.specs.Reads.{fields, taken}
 use Rattle.xgtc.specs.Reads.{readHlend}
 use Rattle.hec.specs.Reads.{reading}
 use Rattle.station.specs.declared.Station.{Station}
 use Rattle.station.specs.declared.answers.Answer.the-variants.{StateOutOfRange, FrameLengthUnfit, BufferTooShort}
 use Rattle.station.specs.States.{isOperating}
-use Rattle.ranges.specs.Ranges.{inRange}
+use Rattle.validity.specs.Ranges.{inRange}
 use Rattle.entries.specs.Limits.{structureOctets}
 use Rattle.ploam.specs.Layout.{messageOctets}
 use Rattle.payload.specs.declared.walk.Delineation.the-variants.{Kept}
@@ -32,8 +32,8 @@ use Rattle.downstream.specs.declared.Opening.the-variants.{Refused}
 use Rattle.downstream.specs.Lengths.{lengthFits}
 use Rattle.downstream.specs.Partitions.{hlendOctets, mapEnd, headerEnd, mapOf, messagesOf, payloadOf}
 use Rattle.downstream.specs.Opening.{byHlend, opening}
-use Rattle.arrival.specs.Given.{Arrival, Lent, withOctets, enough, buffersFit}
-use Rattle.arrival.specs.Frame.{ownOf, plannedIn, repliesIn, payloadIn, next, done, handled, byOpening, frameLeft}
+use Rattle.frame.specs.Given.{Arrival, Lent, withOctets, enough, buffersFit}
+use Rattle.frame.specs.Frame.{ownOf, plannedIn, repliesIn, payloadIn, next, done, handled, byOpening, frameLeft}
 use Rattle.engine.specs.Alike.{AlikeFrames, equal, behind}
 
 -- a part of the front is a part of the whole

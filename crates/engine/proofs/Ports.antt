@@ -17,10 +17,10 @@ use Rattle.ports.specs.declared.Ports.{Ports}
 use Rattle.ports.specs.Limits.{addedPorts, slots, slotBytes, sduBytes}
 use Rattle.ids.specs.Places.{Below, placeFrom}
 use Rattle.ports.specs.Ports.{noPort, portsOf, dropOne, dropAll, appended, delivered}
-use Rattle.ranges.specs.Ranges.{portsFit, emptySlot, partialFits, slotFits, partialsFit}
-use Rattle.ranges.proofs.Tests.{both}
-use Rattle.ranges.proofs.Every.{every-get, every-make}
-use Rattle.conduct.proofs.Slots.{all-wait}
+use Rattle.validity.specs.Ranges.{portsFit, emptySlot, partialFits, slotFits, partialsFit}
+use Rattle.validity.proofs.Tests.{both}
+use Rattle.validity.proofs.Every.{every-get, every-make}
+use Rattle.invariants.proofs.Slots.{all-wait}
 use Rattle.fragments.specs.declared.Reassembly.the-variants.{Ignored, Dropped, Delivered, Appended}
 use Rattle.fragments.specs.Fragments.{behind, slotIn, slotOf, atSlot, atPlace, reassemblyOf, portsAfter}
 use Rattle.fragments.proofs.Decided.{slot-in-range}

@@ -13,26 +13,26 @@ use Rattle.station.specs.declared.answers.Outcome.{Outcome}
 use Rattle.station.specs.States.{isOperating, isRanging}
 use Rattle.station.specs.Limits.{upstreamWords}
 use Rattle.station.specs.Station.{withCarried}
-use Rattle.ranges.specs.Ranges.{inRange}
+use Rattle.validity.specs.Ranges.{inRange}
 use Rattle.timing.specs.Timing.{lostTime}
-use Rattle.activation.specs.Receiving.{messagesIn}
+use Rattle.messages.specs.Receiving.{messagesIn}
 use Rattle.replies.specs.Replying.{afterReply}
 use Rattle.replies.specs.Replies.{inPlace, repliesFrom}
 use Rattle.series.specs.Series.{plannedOf, lastEnd, carriedOver}
 use Rattle.plan.specs.Plan.{messages}
 use Rattle.bwmap.proofs.Kept.{carried-most}
-use Rattle.conduct.proofs.InRange.{Sound}
-use Rattle.conduct.proofs.InRangeTimes.{frame-end-sound, lost-sound, unread-sound}
-use Rattle.conduct.proofs.InRangeMessages.{messages-sound, reply-sound}
-use Rattle.conduct.proofs.InRangeHost.{with-ports-sound}
+use Rattle.invariants.proofs.InRange.{Sound}
+use Rattle.invariants.proofs.InRangeTimes.{frame-end-sound, lost-sound, unread-sound}
+use Rattle.invariants.proofs.InRangeMessages.{messages-sound, reply-sound}
+use Rattle.invariants.proofs.InRangeHost.{with-ports-sound}
 use Rattle.payload.specs.declared.walk.Delineation.the-variants.{Kept}
 use Rattle.payload.specs.Walk.{walkOf}
 use Rattle.downstream.specs.declared.Opening.{Opening}
 use Rattle.downstream.specs.declared.Opening.the-variants.{Refused, Unread, Opened}
 use Rattle.downstream.specs.Partitions.{headerEnd, mapOf, messagesOf, payloadOf}
 use Rattle.downstream.specs.Opening.{opening}
-use Rattle.arrival.specs.Given.{Arrival, Lent, buffersFit}
-use Rattle.arrival.specs.Frame.{ownOf, plannedIn, repliesIn, payloadIn, foundBy, next, done, handled, byOpening, frameLeft}
+use Rattle.frame.specs.Given.{Arrival, Lent, buffersFit}
+use Rattle.frame.specs.Frame.{ownOf, plannedIn, repliesIn, payloadIn, foundBy, next, done, handled, byOpening, frameLeft}
 use Rattle.engine.specs.Lods.{lostLeft}
 use Rattle.engine.proofs.Ports.{Fine, walk-fine}
 

@@ -13,10 +13,10 @@ use Rattle.ploam.specs.Layout.{messageOctets}
 use Rattle.integrity.specs.Integrity.{micOf, keyFor}
 use Rattle.integrity.specs.declared.Direction.the-variants.{Upstream}
 use Rattle.integrity.proofs.Signed.{mic-length}
-use Rattle.upstream.specs.Upstream.{upstreamAddress, upstreamType, upstreamOctets, fitting}
-use Rattle.upstream.specs.Writing.{Outcome, laid, written}
-use Rattle.upstream.specs.declared.Written.the-variants.{Done, Unfit}
-use Rattle.upstream.proofs.RoundTrip.{octets-length}
+use Rattle.ploamu.specs.Upstream.{upstreamAddress, upstreamType, upstreamOctets, fitting}
+use Rattle.ploamu.specs.Writing.{MessageLeft, laid, written}
+use Rattle.ploamu.specs.declared.Written.the-variants.{Done, Unfit}
+use Rattle.ploamu.proofs.RoundTrip.{octets-length}
 use Rattle.station.specs.declared.Activation.{Activation}
 use Rattle.station.specs.declared.Activation.the-variants.{Initial, SerialNumber, Ranging, Operation, Intermittent, EmergencyStop}
 use Rattle.station.specs.declared.Station.{Station}
@@ -32,9 +32,9 @@ use Rattle.downstream.specs.declared.Opening.the-variants.{Refused, Unread, Ope
 use Rattle.downstream.specs.Partitions.{mapOf}
 use Rattle.downstream.specs.Opening.{opening}
 use Rattle.downstream.proofs.Laws.{opened}
-use Rattle.arrival.specs.Given.{Arrival, Lent, buffersFit}
-use Rattle.arrival.specs.Frame.{FrameLeft, ownOf, plannedIn, repliesIn, done, handled, byOpening, frameLeft}
-use Rattle.arrival.proofs.Laws.{Room, room, messages-few}
+use Rattle.frame.specs.Given.{Arrival, Lent, buffersFit}
+use Rattle.frame.specs.Frame.{FrameLeft, ownOf, plannedIn, repliesIn, done, handled, byOpening, frameLeft}
+use Rattle.frame.proofs.Laws.{Room, room, messages-few}
 
 -- ---- a message has 48 octets
 
@@ -43,7 +43,7 @@ laid-long mic octets target fits m o t = go (fits && leb messageOctets (length t
   where
     go
         : (b : Bool)
-        → length (cond {A = Outcome} b (record { answer = Done; target = octets ++ mic ++ drop messageOctets target }) (record { answer = Unfit; target = target }) .target) ≡ messageOctets
+        → length (cond {A = MessageLeft} b (record { answer = Done; target = octets ++ mic ++ drop messageOctets target }) (record { answer = Unfit; target = target }) .target) ≡ messageOctets
     go true =
         let e : length ((octets ++ mic) ++ drop messageOctets target) ≡ messageOctets
         = omega (arith, length-append (octets ++ mic) (drop messageOctets target), length-append octets mic, length-drop messageOctets target) in

@@ -12,8 +12,8 @@ use borrow.Author.Tests.{le-leb}
 use Rattle.ids.specs.declared.PortId.{PortId}
 use Rattle.ids.specs.Ids.{managementPort}
 use Rattle.xgtc.specs.declared.hlend.Hlend.{Hlend}
-use Rattle.framing.specs.Layouts.{payloadSize}
-use Rattle.framing.proofs.Frames.{covers}
+use Rattle.xgem.specs.Layouts.{payloadSize}
+use Rattle.xgem.proofs.Frames.{covers}
 use Rattle.station.specs.declared.Station.{Station}
 use Rattle.ports.specs.declared.Ports.{Ports}
 use Rattle.fragments.specs.declared.Reassembly.{Reassembly}

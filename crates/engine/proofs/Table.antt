@@ -10,16 +10,16 @@ use borrow.Author.Tests.{leb-true, leb-false, le-leb, lt-leb}
 use Rattle.ids.specs.Ids.{managementPort}
 use Rattle.xgtc.specs.declared.hlend.Hlend.{Hlend}
 use Rattle.hec.specs.Reads.{Reading, word, unreadable as unreadable-word, reading}
-use Rattle.framing.specs.Octets.{value}
+use Rattle.octets.specs.Octets.{value}
 use Rattle.xgtc.specs.Layouts.{hlendOf}
-use Rattle.framing.specs.Reads.{Found, fields, unreadable, short, taken}
+use Rattle.xgem.specs.Reads.{Found, fields, unreadable, short, taken}
 use Rattle.xgtc.specs.Reads.{readHlend}
 use Rattle.station.specs.declared.Station.{Station}
 use Rattle.station.specs.declared.answers.Answer.{Answer}
 use Rattle.station.specs.declared.answers.Answer.the-variants.{Done, StateOutOfRange, FrameLengthUnfit, BufferTooShort, HlendUnreadable, HeaderTooLong, DelineationLost, PortOutOfRange, PortHeldOrNotHeld, SlotsTaken, KeyRefused, NotWritten}
 use Rattle.station.specs.States.{isOperating}
-use Rattle.ranges.specs.Ranges.{inRange}
-use Rattle.ranges.proofs.Tests.{both}
+use Rattle.validity.specs.Ranges.{inRange}
+use Rattle.validity.proofs.Tests.{both}
 use Rattle.payload.specs.declared.walk.Delineation.the-variants.{Kept}
 use Rattle.payload.specs.Frames.{parse}
 use Rattle.payload.specs.Walk.{walkOf, leftBy, delineationOf}
@@ -27,8 +27,8 @@ use Rattle.downstream.specs.declared.Opening.the-variants.{Refused, Unread, Ope
 use Rattle.downstream.specs.Lengths.{lengthFits}
 use Rattle.downstream.specs.Partitions.{headerEnd, payloadOf}
 use Rattle.downstream.specs.Opening.{byHlend, opening}
-use Rattle.arrival.specs.Given.{Arrival, Lent, buffersFit}
-use Rattle.arrival.specs.Frame.{FrameLeft, unread, answerTo, payloadIn, done, handled, byOpening, frameLeft}
+use Rattle.frame.specs.Given.{Arrival, Lent, buffersFit}
+use Rattle.frame.specs.Frame.{FrameLeft, unread, answerTo, payloadIn, done, handled, byOpening, frameLeft}
 use Rattle.engine.specs.Answers.{Passed, lostIn, Handled, Row}
 
 -- ---- the answer of a frame that is done

@@ -5,18 +5,18 @@ use mathlib.Core.Path.{_≡_}
 use mathlib.Core.Bool.{Bool, true, false, _&&_}
 use lib.ListN.{length}
 use Rattle.xgtc.specs.declared.hlend.Hlend.{Hlend}
-use Rattle.framing.specs.Reads.{fields, unreadable}
+use Rattle.xgem.specs.Reads.{fields, unreadable}
 use Rattle.xgtc.specs.Reads.{readHlend}
 use Rattle.station.specs.declared.Station.{Station}
 use Rattle.station.specs.declared.answers.Answer.{Answer}
 use Rattle.station.specs.declared.answers.Answer.the-variants.{Done, StateOutOfRange, FrameLengthUnfit, BufferTooShort, HlendUnreadable, HeaderTooLong, DelineationLost, PortOutOfRange, PortHeldOrNotHeld, SlotsTaken, KeyRefused, NotWritten}
 use Rattle.station.specs.States.{isOperating}
-use Rattle.ranges.specs.Ranges.{inRange}
+use Rattle.validity.specs.Ranges.{inRange}
 use Rattle.payload.specs.Frames.{parse}
 use Rattle.downstream.specs.Lengths.{lengthFits}
 use Rattle.downstream.specs.Partitions.{headerEnd, payloadOf}
-use Rattle.arrival.specs.Given.{Arrival, Lent, buffersFit}
-use Rattle.arrival.specs.Frame.{FrameLeft, refused, unread, handled}
+use Rattle.frame.specs.Given.{Arrival, Lent, buffersFit}
+use Rattle.frame.specs.Frame.{FrameLeft, refused, unread, handled}
 
 -- state, length and buffers are fit
 pub record Passed (s : Station) (a : Arrival) (lent : Lent) : Type 0 where

@@ -8,8 +8,8 @@ use lib.ListN.{length, drop}
 use Rattle.station.specs.declared.Station.{Station}
 use Rattle.replies.specs.Replies.{repliesFrom}
 use Rattle.plan.specs.Limits.{numbersARecord}
-use Rattle.arrival.specs.Given.{Arrival, Lent}
-use Rattle.arrival.specs.Frame.{FrameLeft}
+use Rattle.frame.specs.Given.{Arrival, Lent}
+use Rattle.frame.specs.Frame.{FrameLeft}
 
 pub record Counted (s : Station) (a : Arrival) (lent : Lent) (left : FrameLeft) : Type 0 where
   -- so many records of four numbers, then the plan as it was

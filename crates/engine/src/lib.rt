@@ -9,9 +9,9 @@ pub use station::Station;
 // What every call but the stretch and the writers comes back with: its answer, and the state that it leaves.
 pub use station::answers::Outcome;
 // A frame has arrived: the plan of upstream bursts, the replies, the SDUs and the next state. Answers 0 to 6.
-pub use arrival::Counts;
-pub use arrival::FrameOutcome;
-pub use arrival::frame;
+pub use frame::Counts;
+pub use frame::FrameOutcome;
+pub use frame::frame;
 // No frame has arrived: the synchroniser reports LODS. Answers 0 or 1.
 pub use lods::lost;
 // Where in the caller's frame an unfragmented SDU stands. Answers 0, 1, 2, 4, 5 or 6.
@@ -30,5 +30,5 @@ pub use xgtc::hlend::write_hlend;
 // An allocation structure into a lent target. Answers 0 or 11.
 pub use xgtc::allocation::write_allocation;
 // An XGEM header, and an XGEM frame with its SDU and padding, into a lent target. Answer 0 or 11.
-pub use framing::xgem::write_xgem;
-pub use framing::xgem::write_xgem_frame;
+pub use xgem::write_xgem;
+pub use xgem::write_xgem_frame;

@@ -9,7 +9,7 @@ use station::answers::Outcome;
 pub fn lost(s: Station) -> Outcome
     ensures { λ r. ⌜ LostLeaves s r ⌝ }
 {
-    if !ranges::in_range(s) {
+    if !validity::in_range(s) {
         return Outcome {
             answer: Answer::StateOutOfRange,
             station: s,

@@ -7,7 +7,7 @@ use Rattle.ids.specs.declared.AllocId.{AllocId}
 use Rattle.ids.specs.declared.OnuId.{OnuId}
 use Rattle.ids.specs.Ids.{sameAlloc, defaultAlloc, broadcastAlloc}
 use Rattle.xgtc.specs.declared.allocation.Allocation.{Allocation}
-use Rattle.framing.specs.Reads.{Found, fields, unreadable, short}
+use Rattle.xgem.specs.Reads.{Found, fields, unreadable, short}
 use Rattle.station.specs.declared.Activation.{Activation}
 use Rattle.station.specs.declared.Activation.the-variants.{Initial, SerialNumber, Ranging, Operation, Intermittent, EmergencyStop}
 use Rattle.station.specs.States.{silent}

@@ -7,7 +7,7 @@ use xgtc::allocation::AllocationRead;
 ghost use mathlib.Core.Path.{_≡_};
 ghost use Rattle.hec.specs.Reads.{found64};
 ghost use Rattle.xgtc.specs.Layouts.{allocationOf};
-ghost use Rattle.framing.specs.Reads.{taken};
+ghost use Rattle.xgem.specs.Reads.{taken};
 ghost use Rattle.xgtc.specs.Reads.{readAllocation, foundAllocation};
 
 fn found(read: Reading64) -> AllocationRead
@@ -23,7 +23,7 @@ fn found(read: Reading64) -> AllocationRead
 pub fn read_entry(s: &[u8]) -> AllocationRead
     ensures { λ r. ⌜ foundAllocation r ≡ readAllocation (now (s .entry)) ⌝ }
 {
-    let read = hec::read64_by_octets(framing::word_ahead(s));
+    let read = hec::read64_by_octets(xgem::word_ahead(s));
     if s.len() < STRUCTURE_OCTETS {
         return AllocationRead::Short;
     }

@@ -15,7 +15,7 @@ use Rattle.station.specs.States.{holdsIdentity}
 use Rattle.link.specs.Link.{withKey, installed}
 use Rattle.ports.specs.Ports.{portPlace, vacancy, addPort, removePort}
 use Rattle.station.specs.Station.{withLink, withPorts}
-use Rattle.ranges.specs.Ranges.{inRange}
+use Rattle.validity.specs.Ranges.{inRange}
 
 abbrev pub done : Answer → Bool
 done Done = true

@@ -46,7 +46,7 @@ fn settle(answer: Answer, was: Station, next: Station) -> Outcome
 fn answer_to_add(s: Station, port: PortId) -> Answer
     ensures { λ r. ⌜ r ≡ answerToAdd s port ⌝ }
 {
-    if !ranges::in_range(s) {
+    if !validity::in_range(s) {
         return Answer::StateOutOfRange;
     }
     if !port.is_assignable() {
@@ -67,7 +67,7 @@ fn answer_to_add(s: Station, port: PortId) -> Answer
 fn answer_to_remove(s: Station, port: PortId) -> Answer
     ensures { λ r. ⌜ r ≡ answerToRemove s port ⌝ }
 {
-    if !ranges::in_range(s) {
+    if !validity::in_range(s) {
         return Answer::StateOutOfRange;
     }
     if !port.is_assignable() {
@@ -84,7 +84,7 @@ fn answer_to_remove(s: Station, port: PortId) -> Answer
 fn answer_to_key(s: Station) -> Answer
     ensures { λ r. ⌜ r ≡ answerToKey s ⌝ }
 {
-    if !ranges::in_range(s) {
+    if !validity::in_range(s) {
         return Answer::StateOutOfRange;
     }
     let activation = s.activation;

@@ -13,10 +13,10 @@ use Rattle.octets.specs.Octets.{value, octets}
 use Rattle.ploam.specs.declared.Completion.{Completion}
 use Rattle.ploam.specs.declared.Completion.the-variants.{Ok, NoMessage, UnknownMessageType, ParameterError, ProcessingError}
 use Rattle.ploam.specs.Completions.{completionCode}
-use Rattle.framing.specs.Writes.{put}
+use Rattle.xgem.specs.Writes.{put}
 use borrow.Rule.Slice.PartMut.{putMid}
 use Rattle.octets.proofs.Numbers.{all-octets}
-use Rattle.framing.proofs.Frames.{put-behind}
+use Rattle.xgem.proofs.Frames.{put-behind}
 use Rattle.layout.specs.Rows.{each, many}
 
 -- ---- numbers

@@ -9,7 +9,7 @@ use native.Mathlib.Omega.{arith}
 use lib.ListN.{length, take, drop, length-take, length-drop}
 use lib.Seq.{take-take, drop-at, drop-drop}
 use Rattle.octets.specs.Octets.{value, octets}
-use Rattle.framing.specs.Reads.{fields}
+use Rattle.xgem.specs.Reads.{fields}
 use Rattle.station.specs.declared.Station.{Station}
 use Rattle.station.specs.Limits.{serialOctets, registrationOctets}
 use Rattle.link.specs.Limits.{addedAllocs, mostOwed, keyOctets}

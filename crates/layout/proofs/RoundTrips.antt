@@ -10,15 +10,15 @@ use lib.ListN.{length, take, drop, length-append, take-append-drop, replicate}
 use lib.Seq.{take-at, drop-at, length-take-le}
 use borrow.Author.Tests.{le-leb, leb-true, leb-false}
 use Rattle.octets.specs.Octets.{value, octets}
-use Rattle.framing.specs.Reads.{Found, fields, unreadable, short}
-use Rattle.framing.specs.Writes.{put}
+use Rattle.xgem.specs.Reads.{Found, fields, unreadable, short}
+use Rattle.xgem.specs.Writes.{put}
 use Rattle.octets.proofs.Numbers.{value-octets}
 use Rattle.integrity.specs.Integrity.{same}
 use Rattle.integrity.proofs.Same.{same-refl, same-equal}
 use Rattle.station.specs.declared.Station.{Station}
 use Rattle.station.specs.Station.{powerOn}
 use Rattle.layout.specs.declared.StateRead.{StateRead}
-use Rattle.layout.specs.declared.Standing.the-variants.{Held, Unreadable, Short}
+use Rattle.layout.specs.declared.Contents.the-variants.{Held, Unreadable, Short}
 use Rattle.station.specs.Limits.{serialOctets, registrationOctets}
 use Rattle.layout.specs.Rows.{part}
 use Rattle.layout.specs.Offsets.{activationAt, activationWidth, serialAt, registrationAt, linkAt, linkWidth, portsAt, portsWidth, carriedAt, wordsWidth, reservedWidth, stateBytes}
@@ -85,7 +85,7 @@ module _ (s : Station) (t : Typed s) (rest : List ℕ) where
       let room : stateBytes ≤ length b = omega (arith, (encoded-length s (t .sized)), length-append (encoded s) rest) in
       let front-is : take stateBytes b ≡ encoded s = take-at (encoded s) rest stateBytes (encoded-length s (t .sized)) in
       let alike : same (encoded (shown b)) (take stateBytes b) ≡ true = ap₂ same (ap encoded shown-back) front-is ∙ same-refl (encoded s) in
-      ap (λ (r : StateRead). found (r .standing) (r .station)) (sym (read-held b s room (sym shown-back) alike))
+      ap (λ (r : StateRead). found (r .contents) (r .station)) (sym (read-held b s room (sym shown-back) alike))
 
 -- ---- octets that are read are those of the state they are read as
 

@@ -9,8 +9,8 @@ use lib.ListN.{length, take, drop, replicate}
 use Rattle.ids.specs.declared.AllocId.{AllocId}
 use Rattle.ids.specs.declared.PortId.{PortId}
 use Rattle.octets.specs.Octets.{value, octets}
-use Rattle.framing.specs.Reads.{Found, fields, unreadable, short}
-use Rattle.framing.specs.Writes.{put}
+use Rattle.xgem.specs.Reads.{Found, fields, unreadable, short}
+use Rattle.xgem.specs.Writes.{put}
 use Rattle.integrity.specs.Integrity.{same}
 use Rattle.station.specs.declared.Activation.{Activation}
 use Rattle.station.specs.declared.Activation.the-variants.{Initial, SerialNumber, Ranging, Operation, Intermittent, EmergencyStop}
@@ -28,8 +28,8 @@ use Rattle.station.specs.States.{o23, o4, o5, o6, o7, stateNumber}
 use Rattle.ploam.specs.Completions.{completionCode}
 use Rattle.station.specs.Station.{powerOn}
 use Rattle.layout.specs.declared.StateRead.{StateRead}
-use Rattle.layout.specs.declared.Standing.{Standing}
-use Rattle.layout.specs.declared.Standing.the-variants.{Held, Unreadable, Short}
+use Rattle.layout.specs.declared.Contents.{Contents}
+use Rattle.layout.specs.declared.Contents.the-variants.{Held, Unreadable, Short}
 use Rattle.station.specs.Limits.{serialOctets, registrationOctets}
 use Rattle.link.specs.Limits.{addedAllocs, mostOwed}
 use Rattle.link.specs.Limits as limits
@@ -180,16 +180,16 @@ shown b =
 unfoldable pub readOf : List ℕ → StateRead
 readOf b =
     cond (leb stateBytes (length b))
-    (record { standing = cond (same (encoded (shown b)) (take stateBytes b)) Held Unreadable; station = shown b })
-    (record { standing = Short; station = powerOn (replicate serialOctets 0) (replicate registrationOctets 0) })
+    (record { contents = cond (same (encoded (shown b)) (take stateBytes b)) Held Unreadable; station = shown b })
+    (record { contents = Short; station = powerOn (replicate serialOctets 0) (replicate registrationOctets 0) })
 
-abbrev pub found : Standing → Station → Found Station
+abbrev pub found : Contents → Station → Found Station
 found Held s = fields s
 found Unreadable s = unreadable
 found Short s = short
 
 abbrev pub decoded : List ℕ → Found Station
-decoded b = found (readOf b .standing) (readOf b .station)
+decoded b = found (readOf b .contents) (readOf b .station)
 
 -- a state at the start of a buffer that has room for it
 unfoldable pub stored : Station → List ℕ → List ℕ

@@ -12,7 +12,7 @@ use station::Station;
 pub const STATE_BYTES: usize = offsets::STATE_BYTES;
 
 // What stands in a buffer: a state, octets that are no state's, or too few.
-pub enum Standing {
+pub enum Contents {
     Held,
     Unreadable,
     Short,
@@ -20,7 +20,7 @@ pub enum Standing {
 
 // The station counts only where a state is held.
 pub struct StateRead {
-    pub standing: Standing,
+    pub contents: Contents,
     pub station: Station,
 }
 
@@ -31,19 +31,19 @@ pub fn read_state(state: &[u8]) -> StateRead
     if state.len() < STATE_BYTES {
         let s = Station::power_on([0u8; 8], [0u8; 36]);
         return StateRead {
-            standing: Standing::Short,
+            contents: Contents::Short,
             station: s,
         };
     }
     let s = reading::station_in(state);
     if known::octets_known(state) {
         return StateRead {
-            standing: Standing::Held,
+            contents: Contents::Held,
             station: s,
         };
     }
     StateRead {
-        standing: Standing::Unreadable,
+        contents: Contents::Unreadable,
         station: s,
     }
 }

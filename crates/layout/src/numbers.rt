@@ -3,7 +3,7 @@ ghost use mathlib.Core.Path.{_≡_};
 ghost use Prim.Native.Nat.{_≤_};
 ghost use lib.ListN.{length};
 ghost use Rattle.octets.specs.Octets.{value, octets};
-ghost use Rattle.framing.specs.Writes.{put};
+ghost use Rattle.xgem.specs.Writes.{put};
 
 pub(crate) fn number8(c: &[u8]) -> u8
     requires { ⌜ length (now c) ≡ 1 ⌝ }

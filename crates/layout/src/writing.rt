@@ -2,7 +2,7 @@
 ghost use mathlib.Core.Path.{_≡_};
 ghost use Prim.Native.Nat.{_+_, _≤_, _<_};
 ghost use lib.ListN.{length};
-ghost use Rattle.framing.specs.Writes.{put};
+ghost use Rattle.xgem.specs.Writes.{put};
 ghost use Rattle.station.specs.Limits.{serialOctets, registrationOctets};
 ghost use Rattle.link.specs.Limits as limits;
 ghost use Rattle.layout.specs.Rows.{each};

@@ -24,7 +24,7 @@ use Rattle.station.specs.States.{holdsIdentity, o23, o4}
 use Rattle.link.specs.Link.{allocPlace}
 use Rattle.decisions.specs.Decisions.{isBroadcast}
 use Rattle.ids.specs.Places.{isHeld}
-use Rattle.ranges.proofs.Tests.{both, not-so}
+use Rattle.validity.proofs.Tests.{both, not-so}
 use Rattle.ledger.specs.Events.{Event, considered, ended, unread, lost, replied, walked, carriedOver, portAdded, portRemoved, keyGiven, stationOf}
 use Rattle.ledger.specs.Entries.{Entry, gave, tookBack, tookAllBack, neither, takesBack}
 use Rattle.ledger.specs.Messages.{inState, isOwn, byAssignOnuId, acceptsAllocId, byType, byAssignAllocId, byDeactivate, disabling, byDisable, byContent, heeds, byMessage}

@@ -15,10 +15,10 @@ use Rattle.link.specs.declared.Allocs.{Allocs}
 use Rattle.link.specs.Limits.{addedAllocs}
 use Rattle.link.specs.Link.{heldAllocs, allocPlace}
 use Rattle.station.specs.Station.{powerOn}
-use Rattle.ranges.specs.Ranges.{proper, allocsFit}
+use Rattle.validity.specs.Ranges.{proper, allocsFit}
 use Rattle.entries.specs.declared.Own.{Own}
 use Rattle.ids.specs.Places.{isHeld}
-use Rattle.ranges.proofs.Tests.{both}
+use Rattle.validity.proofs.Tests.{both}
 use Rattle.ledger.specs.Events.{Event, stationOf}
 use Rattle.ledger.specs.Ledger.{holds}
 use Rattle.ledger.specs.Promises.{AllocsListed}

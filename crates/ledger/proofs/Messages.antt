@@ -47,8 +47,8 @@ use Rattle.ids.specs.Places.{isHeld}
 use Rattle.effects.specs.Changes.{identify, range, setDelay, applyChange, applyDebt, applied}
 use Rattle.decisions.specs.Acts.{act}
 use Rattle.decisions.proofs.Acting.{act-forged}
-use Rattle.activation.specs.Receiving.{acting, receive}
-use Rattle.ranges.proofs.Tests.{both}
+use Rattle.messages.specs.Receiving.{acting, receive}
+use Rattle.validity.proofs.Tests.{both}
 use Rattle.ledger.specs.Entries.{Entry, gave, tookBack, tookAllBack, neither}
 use Rattle.ledger.specs.Messages.{isOwn, byAssignOnuId, acceptsAllocId, byType, byAssignAllocId, byDeactivate, disabling, byDisable, byContent, heeds, byMessage}
 use Rattle.ledger.specs.Plan.{ownOf}

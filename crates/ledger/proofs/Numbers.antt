@@ -19,10 +19,10 @@ use Rattle.link.specs.Limits.{addedAllocs}
 use Rattle.ids.specs.Places.{placeFrom, some}
 use Rattle.link.specs.Link.{noAlloc, heldAllocs, allocPlace, addAlloc, removeAlloc, removeAt}
 use Rattle.ids.proofs.Places.{place-held}
-use Rattle.ranges.specs.Ranges.{proper, allocsFit}
+use Rattle.validity.specs.Ranges.{proper, allocsFit}
 use Rattle.ids.specs.Places.{isHeld}
-use Rattle.ranges.proofs.Tests.{both, not-so}
-use Rattle.conduct.proofs.Lists.{found-some, without, closed-up}
+use Rattle.validity.proofs.Tests.{both, not-so}
+use Rattle.invariants.proofs.Lists.{found-some, without, closed-up}
 
 -- one of the list has the number n
 abbrev pub among : List AllocId → ℕ → Bool

@@ -16,12 +16,12 @@ use Rattle.link.specs.Limits.{addedAllocs}
 use Rattle.station.specs.Limits.{to1}
 use Rattle.station.specs.States.{holdsIdentity}
 use Rattle.link.specs.Link.{noAllocs, heldAllocs, allocPlace, addAlloc, removeAlloc}
-use Rattle.ranges.specs.Ranges.{identityFits, allocsFit}
+use Rattle.validity.specs.Ranges.{identityFits, allocsFit}
 use Rattle.entries.specs.declared.Own.{Own}
 use Rattle.ids.specs.Places.{isHeld}
-use Rattle.ranges.proofs.Tests.{both}
-use Rattle.conduct.proofs.InRangeTimes.{identity-moves}
-use Rattle.conduct.proofs.InRangeLists.{added, removed}
+use Rattle.validity.proofs.Tests.{both}
+use Rattle.invariants.proofs.InRangeTimes.{identity-moves}
+use Rattle.invariants.proofs.InRangeLists.{added, removed}
 use Rattle.ledger.specs.Entries.{Entry, gave, tookBack, neither}
 use Rattle.ledger.proofs.Book.{posted}
 use Rattle.ledger.proofs.Numbers.{swapped, among, added-among, removed-among}

@@ -7,7 +7,7 @@ use mathlib.Core.Logic.{_↔_}
 use mathlib.Core.Bool.{Bool, true, false, _||_}
 use mathlib.Core.List.{List}
 use Rattle.xgtc.specs.declared.allocation.Allocation.{Allocation}
-use Rattle.framing.specs.Reads.{Found, fields}
+use Rattle.xgem.specs.Reads.{Found, fields}
 use Rattle.station.specs.declared.Activation.the-variants.{SerialNumber, Ranging, Operation}
 use Rattle.station.specs.declared.Station.{Station}
 use Rattle.station.specs.States.{holdsIdentity}

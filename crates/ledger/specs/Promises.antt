@@ -14,7 +14,7 @@ use Rattle.station.specs.declared.Station.{Station}
 use Rattle.station.specs.Limits.{to1, to2}
 use Rattle.station.specs.States.{o4}
 use Rattle.link.specs.Link.{heldAllocs, allocPlace}
-use Rattle.ranges.specs.Ranges.{proper}
+use Rattle.validity.specs.Ranges.{proper}
 use Rattle.ids.specs.Places.{isHeld}
 use Rattle.ledger.specs.Events.{Event, considered, ended, unread, lost, stationOf}
 use Rattle.ledger.specs.Entries.{gave, neither, takesBack}

@@ -9,7 +9,7 @@ use native.Mathlib.Omega.{arith}
 use lib.ListN.{length, take, drop, length-append, length-drop, take-append-drop}
 use lib.Seq.{length-take-le}
 use Rattle.ids.specs.declared.PortId.{PortId}
-use Rattle.framing.proofs.Numbers.{octets-length}
+use Rattle.xgem.proofs.Numbers.{octets-length}
 use Rattle.ports.specs.Limits.{slots, slotBytes}
 use Rattle.fragments.specs.declared.Reassembly.{Reassembly}
 use Rattle.fragments.specs.declared.Reassembly.the-variants.{Ignored, Dropped, Delivered, Appended}

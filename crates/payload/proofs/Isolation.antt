@@ -9,10 +9,10 @@ use lib.Dec.{eqb, leb}
 use lib.ListN.{length, take, drop}
 use Rattle.ids.specs.declared.PortId.{PortId}
 use Rattle.hec.specs.Reads.{reading}
-use Rattle.framing.specs.declared.xgem.XgemHeader.{XgemHeader}
-use Rattle.framing.specs.Octets.{value}
-use Rattle.framing.specs.Layouts.{xgemOf, payloadSize}
-use Rattle.framing.specs.Reads.{Found, taken as taken-fields, short, readXgem}
+use Rattle.xgem.specs.declared.frame.XgemHeader.{XgemHeader}
+use Rattle.octets.specs.Octets.{value}
+use Rattle.xgem.specs.Layouts.{xgemOf, payloadSize}
+use Rattle.xgem.specs.Reads.{Found, taken as taken-fields, short, readXgem}
 use Rattle.ids.specs.declared.Place.{Place}
 use Rattle.ids.specs.declared.Place.the-variants.{Nowhere}
 use Rattle.ports.specs.declared.Ports.{Ports}

@@ -13,15 +13,15 @@ use lib.Seq.{drop-at, getD-set-same}
 use Rattle.ids.specs.declared.PortId.{PortId}
 use Rattle.bch.specs.Code.{distance}
 use Rattle.hec.proofs.Words.{undamaged}
-use Rattle.framing.specs.declared.xgem.XgemHeader.{XgemHeader}
-use Rattle.framing.specs.Octets.{value, octets}
-use Rattle.framing.specs.Layouts.{xgemFits, xgemWord, payloadSize}
-use Rattle.framing.specs.Reads.{Found, fields, readXgem}
-use Rattle.framing.specs.Writes.{carrying, padding, xgemFrame}
-use Rattle.framing.proofs.Numbers.{octets-length, value-octets}
-use Rattle.framing.proofs.Layouts.{xgem-true}
-use Rattle.framing.proofs.Frames.{frame-length}
-use Rattle.framing.proofs.RoundTrips.{frame-mended, octets-bytes}
+use Rattle.xgem.specs.declared.frame.XgemHeader.{XgemHeader}
+use Rattle.octets.specs.Octets.{value, octets}
+use Rattle.xgem.specs.Layouts.{xgemFits, xgemWord, payloadSize}
+use Rattle.xgem.specs.Reads.{Found, fields, readXgem}
+use Rattle.xgem.specs.Writes.{carrying, padding, xgemFrame}
+use Rattle.xgem.proofs.Numbers.{octets-length, value-octets}
+use Rattle.xgem.proofs.Layouts.{xgem-true}
+use Rattle.xgem.proofs.Frames.{frame-length}
+use Rattle.xgem.proofs.RoundTrips.{frame-mended, octets-bytes}
 use Rattle.ids.specs.declared.Place.{Place}
 use Rattle.ids.specs.declared.Place.the-variants.{At}
 use Rattle.ports.specs.Limits.{slots, sduBytes}

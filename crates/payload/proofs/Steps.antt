@@ -7,8 +7,8 @@ use Prim.Native.Nat.{ℕ, _+_, _≤_, zero-le}
 use native.Mathlib.Omega.{arith}
 use lib.ListN.{length, getD, length-append, length-set}
 use Rattle.ids.specs.declared.PortId.{PortId}
-use Rattle.framing.specs.Octets.{octets}
-use Rattle.framing.proofs.Numbers.{octets-length}
+use Rattle.octets.specs.Octets.{octets}
+use Rattle.xgem.proofs.Numbers.{octets-length}
 use Rattle.ports.specs.declared.Ports.{Ports}
 use Rattle.ports.specs.Limits.{slots, addedPorts, slotBytes}
 use Rattle.ports.specs.Ports.{dropOne, appended, delivered}

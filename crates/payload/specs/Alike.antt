@@ -6,8 +6,8 @@ use mathlib.Core.List.{List}
 use Prim.Native.Nat.{ℕ, _+_}
 use lib.ListN.{length, take, drop}
 use Rattle.ids.specs.declared.PortId.{PortId}
-use Rattle.framing.specs.declared.xgem.XgemHeader.{XgemHeader}
-use Rattle.framing.specs.Layouts.{payloadSize}
+use Rattle.xgem.specs.declared.frame.XgemHeader.{XgemHeader}
+use Rattle.xgem.specs.Layouts.{payloadSize}
 use Rattle.ids.specs.declared.Place.the-variants.{Nowhere}
 use Rattle.fragments.specs.Fragments.{slotIn}
 use Rattle.payload.specs.declared.frames.Next.the-variants.{Frame}

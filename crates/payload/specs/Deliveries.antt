@@ -5,8 +5,8 @@ use mathlib.Core.List.{List, [], _∷_, _++_}
 use Prim.Native.Nat.{ℕ, _+_}
 use lib.ListN.{length}
 use Rattle.ids.specs.declared.PortId.{PortId}
-use Rattle.framing.specs.declared.xgem.XgemHeader.{XgemHeader}
-use Rattle.framing.specs.Writes.{carrying, xgemFrame}
+use Rattle.xgem.specs.declared.frame.XgemHeader.{XgemHeader}
+use Rattle.xgem.specs.Writes.{carrying, xgemFrame}
 use Rattle.fragments.specs.declared.Reassembly.{Reassembly}
 use Rattle.fragments.specs.declared.Reassembly.the-variants.{Ignored, Dropped, Delivered, Appended}
 use Rattle.fragments.specs.Fragments.{reassemblyOf}

@@ -1,7 +1,7 @@
 -- A frame that was found lies within what is left.
 -- Assumes nothing.
 use Prim.Native.Nat.{ℕ, _+_, _≤_, _<_, _^_}
-use Rattle.framing.specs.Layouts.{payloadSize}
+use Rattle.xgem.specs.Layouts.{payloadSize}
 use Rattle.payload.specs.declared.frames.Next.{Next}
 use Rattle.payload.specs.declared.frames.Next.the-variants.{Done, Lost, Frame}
 use Rattle.payload.specs.Frames.{xgemHeaderBytes}

@@ -5,7 +5,7 @@ use mathlib.Core.List.{List, _++_}
 use Prim.Native.Nat.{ℕ, _+_, _*_}
 use lib.ListN.{length, take, drop}
 use Rattle.ids.specs.declared.PortId.{PortId}
-use Rattle.framing.specs.Octets.{octets}
+use Rattle.octets.specs.Octets.{octets}
 use Rattle.ports.specs.Limits.{slotBytes}
 use Rattle.ports.specs.Ports.{dropOne, appended, delivered}
 use Rattle.ports.specs.declared.Ports.{Ports}

@@ -3,9 +3,8 @@ ghost use mathlib.Core.Path.{_≡_};
 ghost use lib.ListN.{length};
 ghost use Rattle.payload.specs.Frames.{nextOf};
 ghost use Rattle.payload.specs.Inside.{Inside};
-use framing::xgem;
-use framing::xgem::XgemHeader;
 use hec::Reading64;
+use xgem::XgemHeader;
 
 pub const XGEM_HEADER_BYTES: usize = 8;
 
@@ -18,7 +17,7 @@ pub enum Next {
 pub(crate) fn next_frame(left: &[u8]) -> Next
     ensures { λ r. ⌜ (r ≡ nextOf (now (left .entry))) × (Inside r (length (now (left .entry)))) ⌝ }
 {
-    let read = hec::read64_by_octets(framing::word_ahead(left));
+    let read = hec::read64_by_octets(xgem::word_ahead(left));
     if left.len() < XGEM_HEADER_BYTES {
         return Next::Done;
     }

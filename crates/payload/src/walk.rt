@@ -8,7 +8,6 @@ ghost use Rattle.payload.specs.Walk.{walkOf, allWithin, receiveOf};
 use super::frames;
 use super::frames::Next;
 use super::memory;
-use framing::xgem;
 use ids::PortId;
 use ports::Ports;
 use ports::SLOT_BYTES;

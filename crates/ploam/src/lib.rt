@@ -1,5 +1,5 @@
 // The messages of the PLOAM channel (G.987.3, clause 11): 48 octets, read. Whether one is genuine is the matter of the
-// crate `integrity`, and those that a station sends of `upstream`.
+// crate `integrity`, and those that a station sends of `ploamu`.
 pub mod reading;
 
 ghost use mathlib.Core.Path.{_≡_};

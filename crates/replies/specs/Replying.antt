@@ -7,8 +7,8 @@ use mathlib.Core.Bool.{Bool, cond}
 use lib.Dec.{eqb}
 use Rattle.ids.specs.declared.OnuId.{OnuId}
 use Rattle.ploam.specs.Reading.{serialAt}
-use Rattle.upstream.specs.declared.UpstreamMessage.{UpstreamMessage}
-use Rattle.upstream.specs.declared.UpstreamMessage.the-variants as says
+use Rattle.ploamu.specs.declared.UpstreamMessage.{UpstreamMessage}
+use Rattle.ploamu.specs.declared.UpstreamMessage.the-variants as says
 use Rattle.station.specs.declared.Activation.{Activation}
 use Rattle.station.specs.declared.Activation.the-variants.{Initial, SerialNumber, Ranging, Operation, Intermittent, EmergencyStop}
 use Rattle.station.specs.declared.Station.{Station}

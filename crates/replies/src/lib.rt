@@ -5,7 +5,7 @@ ghost use mathlib.Core.Path.{_≡_};
 ghost use Prim.Native.Nat.{min, _*_, _≤_, _<_, _^_};
 ghost use Rattle.ploam.specs.Layout.{messageOctets};
 ghost use lib.ListN.{length};
-ghost use Rattle.replies.specs.Replies.{Keyed, wrote, Left, repliesFrom, Replied};
+ghost use Rattle.replies.specs.Replies.{Keyed, wrote, RepliesLeft, repliesFrom, Replied};
 
 pub mod replying;
 
@@ -22,7 +22,7 @@ fn write_reply(usual: Prepared, installed: Prepared, s: Station, delay: u32, tar
     match replying::reply_of(s, delay) {
         Reply::Silent => {}
         Reply::Says(message) => {
-            upstream::writing::write(usual, installed, message, id, target);
+            ploamu::writing::write(usual, installed, message, id, target);
         }
     }
 }
@@ -67,6 +67,6 @@ pub fn reply_all(s: Station, n: usize, delay: u32, replies: &mut [u8]) -> Statio
     let usual = integrity::default_key();
     let link = s.link;
     let key = link.key;
-    let installed = activation::installed_key(usual, key);
+    let installed = messages::installed_key(usual, key);
     write_each(usual, installed, s, k, delay, replies)
 }

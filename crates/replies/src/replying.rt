@@ -6,9 +6,9 @@ use link::Owed;
 use link::Queue;
 use link::Response;
 use ploam::Completion;
+use ploamu::UpstreamMessage;
 use station::Activation;
 use station::Station;
-use upstream::UpstreamMessage;
 
 // O1, O6 and O7 send nothing.
 pub enum Reply {

@@ -6,7 +6,7 @@ use mathlib.Core.List.{List, [], _∷_}
 use lib.Dec.{ltb, leb}
 use lib.ListN.{length, drop}
 use Rattle.xgtc.specs.declared.allocation.Allocation.{Allocation}
-use Rattle.framing.specs.Reads.{Found}
+use Rattle.xgem.specs.Reads.{Found}
 use Rattle.xgtc.specs.Reads.{readAllocation}
 use Rattle.station.specs.Limits.{upstreamWords}
 use Rattle.entries.specs.declared.Own.{Own}

@@ -8,12 +8,11 @@ ghost use Rattle.payload.specs.Frames.{nextOf};
 ghost use Rattle.payload.specs.Inside.{Inside};
 ghost use Rattle.stretches.specs.Stretch.{noExtent, sought, settled, stretchOf, cutOut};
 use fragments::Reassembly;
-use framing::xgem;
-use framing::xgem::XgemRead;
 use ids::PortId;
 use payload::Next;
 use payload::XGEM_HEADER_BYTES;
 use ports::Ports;
+use xgem::XgemRead;
 
 // So many bytes from a place of the payload.
 pub struct Extent {

@@ -14,10 +14,10 @@ use Rattle.station.specs.declared.answers.Outcome.{Outcome}
 use Rattle.station.specs.Answers.{answerNumber}
 use Rattle.station.specs.States.{stateNumber}
 use Rattle.payload.specs.Memory.{put}
-use Rattle.arrival.specs.declared.Counts.{Counts}
-use Rattle.arrival.specs.declared.FrameOutcome.{FrameOutcome}
-use Rattle.arrival.specs.Given.{Lent, arriving}
-use Rattle.arrival.specs.Frame.{FrameLeft, leaving, noCounts, frameLeft}
+use Rattle.frame.specs.declared.Counts.{Counts}
+use Rattle.frame.specs.declared.FrameOutcome.{FrameOutcome}
+use Rattle.frame.specs.Given.{Lent, arriving}
+use Rattle.frame.specs.Frame.{FrameLeft, leaving, noCounts, frameLeft}
 use Rattle.engine.specs.Lods.{lostLeft}
 use Rattle.trace.specs.declared.records.Kind.{Kind}
 use Rattle.trace.specs.declared.records.Kind.the-variants.{Lost, Frame, Bad}

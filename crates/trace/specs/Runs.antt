@@ -13,9 +13,9 @@ use Rattle.station.specs.States.{stateNumber}
 use Rattle.payload.specs.Memory.{put}
 use Rattle.payload.specs.Walk.{memoryBytes}
 use Rattle.plan.specs.Limits.{planNumbers}
-use Rattle.arrival.specs.declared.Counts.{Counts}
-use Rattle.arrival.specs.Given.{Lent, arriving, lending, replyOctets}
-use Rattle.arrival.specs.Frame.{FrameLeft, noCounts, frameLeft}
+use Rattle.frame.specs.declared.Counts.{Counts}
+use Rattle.frame.specs.Given.{Lent, arriving, lending, replyOctets}
+use Rattle.frame.specs.Frame.{FrameLeft, noCounts, frameLeft}
 use Rattle.engine.specs.Lods.{lostLeft}
 use Rattle.trace.specs.declared.records.Kind.{Kind}
 use Rattle.trace.specs.declared.records.Kind.the-variants.{Lost, Frame, Bad}

@@ -75,7 +75,7 @@ fn main() {
     let mut input = [0u8; INPUT];
     let mut memory = [0u8; payload::MEMORY_BYTES];
     let mut plan = [0u16; plan::PLAN_NUMBERS];
-    let mut replies = [0u8; arrival::given::REPLY_OCTETS];
+    let mut replies = [0u8; frame::given::REPLY_OCTETS];
     let mut deliveries = [0u8; DELIVERIES];
     let mut text = [0u8; TEXT];
     let mut run = records::start();

@@ -9,10 +9,10 @@ use native.Mathlib.Omega.{arith}
 use lib.ListN.{length, take, drop}
 use Rattle.bch.specs.Code.{TrueWord, distance}
 use Rattle.octets.specs.Octets.{value, octets}
-use Rattle.framing.specs.Reads.{fields}
-use Rattle.framing.specs.declared.words.Written.the-variants.{Done}
+use Rattle.xgem.specs.Reads.{fields}
+use Rattle.xgem.specs.declared.words.Written.the-variants.{Done}
 use Rattle.octets.proofs.Numbers.{Bytes}
-use Rattle.framing.proofs.RoundTrips.{flipped, clean, again, stands, wrote-done, same-fields}
+use Rattle.xgem.proofs.RoundTrips.{flipped, clean, again, stands, wrote-done, same-fields}
 use Rattle.xgtc.specs.Layouts.{hlendOf, hlendFits, hlendWord, allocationOf, allocationFits, allocationWord}
 use Rattle.xgtc.specs.Reads.{readHlend, readAllocation}
 use Rattle.xgtc.specs.Writes.{writeHlend, writeAllocation}

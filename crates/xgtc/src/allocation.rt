@@ -1,13 +1,13 @@
 // The allocation structure: one entry of the bandwidth map (clause 8.1.2).
-use framing::Written;
-use framing::words;
 use hec::Reading64;
 use hec::Word64;
 use ids::AllocId;
+use xgem::Written;
+use xgem::words;
 ghost use mathlib.Core.Path.{_≡_};
 ghost use Rattle.hec.specs.Reads.{found64};
 ghost use Rattle.xgtc.specs.Layouts.{allocationOf, allocationFits, allocationBits};
-ghost use Rattle.framing.specs.Reads.{taken};
+ghost use Rattle.xgem.specs.Reads.{taken};
 ghost use Rattle.xgtc.specs.Reads.{readAllocation, foundAllocation};
 ghost use Rattle.xgtc.specs.Writes.{writeAllocation};
 

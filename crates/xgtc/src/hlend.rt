@@ -1,13 +1,13 @@
 // HLend: how many allocation structures and PLOAM messages stand in front of the payload (clause 8.1.1).
 use super::words;
-use framing::Written;
 use hec::Reading32;
 use hec::Word32;
+use xgem::Written;
 ghost use mathlib.Core.Path.{_≡_};
 ghost use Rattle.hec.specs.Reads.{found32};
-ghost use Rattle.framing.specs.Layouts.{behind};
+ghost use Rattle.xgem.specs.Layouts.{behind};
 ghost use Rattle.xgtc.specs.Layouts.{hlendOf, hlendFits};
-ghost use Rattle.framing.specs.Reads.{taken};
+ghost use Rattle.xgem.specs.Reads.{taken};
 ghost use Rattle.xgtc.specs.Reads.{readHlend, foundHlend};
 ghost use Rattle.xgtc.specs.Writes.{writeHlend};
 

@@ -1,11 +1,11 @@
 // The 32 bits of HLend as octets of a slice, the most significant first.
-use framing::Written;
+use xgem::Written;
 ghost use mathlib.Core.Path.{_≡_};
 ghost use Prim.Native.Nat.{_%_, _^_, _≤_};
 ghost use lib.ListN.{length, take};
 ghost use Rattle.hec.specs.Writes.{protected};
 ghost use Rattle.octets.specs.Octets.{value, octets};
-ghost use Rattle.framing.specs.Writes.{put, wrote};
+ghost use Rattle.xgem.specs.Writes.{put, wrote};
 
 pub(crate) fn word32(s: &[u8]) -> u32
     requires { ⌜ 4 ≤ length (now s) ⌝ }

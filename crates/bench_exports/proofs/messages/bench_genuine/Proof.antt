@@ -10,7 +10,7 @@ use Rattle.aes.specs.Words.{wordsOf, Octets}
 use Rattle.cmac.specs.Tags.{preparedBy}
 use Rattle.cmac.specs.declared.Prepared.{Prepared}
 use Rattle.integrity.specs.Integrity.{defaultKey}
-use Rattle.activation.specs.Receiving.{messagesIn}
+use Rattle.messages.specs.Receiving.{messagesIn}
 use Rattle.bench_exports.specs.Messages.{benchKey, genuineCountBy}
 use Rattle.bench_exports.proofs.Counted.{count-true}
 use borrow.Author.Needs.{needs}

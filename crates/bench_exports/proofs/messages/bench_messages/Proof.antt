@@ -3,7 +3,7 @@
 use denote.Ref.{now}
 use mathlib.Core.Path.{ap, _∙_}
 use Rattle.station.specs.declared.Station.{Station}
-use Rattle.activation.specs.Receiving.{receiveAll, messagesIn}
+use Rattle.messages.specs.Receiving.{receiveAll, messagesIn}
 use borrow.Author.Needs.{needs}
 use Rattle.bench_exports.proofs.messages.bench_messages.Statement.{statement}
 use Rattle.bench_exports.proofs.messages.bench_messages.Tie as tie

@@ -8,7 +8,7 @@ use denote.Ref.{now}
 use lib.ListN.{length, take, drop}
 use borrow.Author.Needs.{needs}
 use Rattle.integrity.specs.Integrity.{genuineBy}
-use Rattle.activation.specs.Receiving.{messagesFrom, messagesIn}
+use Rattle.messages.specs.Receiving.{messagesFrom, messagesIn}
 use Rattle.bench_exports.specs.Messages.{oneIf, genuineCountBy}
 use Rattle.bench_exports.proofs.Counted.{counted, counted-all}
 use Rattle.bench_exports.proofs.messages.count_genuine.Statement.{statement}

@@ -1,6 +1,6 @@
 -- `boundary::arrivals::lingbarrow_frame` meets its contract.
 -- Assumes nothing.
-use Rattle.arrival.specs.Given.{Arrival, Lent, arriving, lending}
+use Rattle.frame.specs.Given.{Arrival, Lent, arriving, lending}
 use denote.Ref.{now}
 use borrow.Author.Tests.{le-leb, lt-leb}
 use Rattle.boundary.specs.Frames.{frameOn}

@@ -5,7 +5,7 @@ use mathlib.Core.List.{[], _∷_}
 use Prim.Native.Nat.{ℕ, _/_, _%_}
 use native.Mathlib.Omega.{arith}
 use denote.Ref.{now}
-use Rattle.framing.specs.Writes.{put}
+use Rattle.xgem.specs.Writes.{put}
 use Rattle.layout.proofs.Laws.{put-first}
 use borrow.Author.Needs.{needs}
 use Rattle.layout.proofs.numbers.put8.Statement.{statement}

@@ -6,7 +6,7 @@ use denote.Ref.{now}
 use mathlib.Core.List.{List}
 use Prim.Native.Nat.{ℕ}
 use Rattle.octets.specs.Octets.{octets}
-use Rattle.framing.specs.Writes.{put}
+use Rattle.xgem.specs.Writes.{put}
 use Rattle.layout.proofs.Laws.{behind}
 use lib.ListN.{length}
 use borrow.Author.Needs.{needs}

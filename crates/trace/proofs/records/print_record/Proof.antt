@@ -1,7 +1,7 @@
 -- `trace::records::print_record` meets its contract.
 -- Assumes nothing.
 use native.Mathlib.Omega.{arith}
-use Rattle.arrival.specs.Given.{lending}
+use Rattle.frame.specs.Given.{lending}
 use Rattle.trace.specs.Runs.{At}
 use Rattle.trace.proofs.Steps.{stopped-step, lost-step, frame-step, bad-step, frame-whole}
 use borrow.Author.Needs.{needs}

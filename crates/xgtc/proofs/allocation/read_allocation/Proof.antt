@@ -9,7 +9,7 @@ use Rattle.hec.specs.Reads.{reading, found64}
 use Rattle.hec.proofs.Nearest.{is-reading}
 use Rattle.xgtc.specs.Layouts.{allocationOf}
 use Rattle.octets.specs.Octets.{value}
-use Rattle.framing.proofs.Steps.{read-short, read-found}
+use Rattle.xgem.proofs.Steps.{read-short, read-found}
 use borrow.Author.Needs.{needs}
 use Rattle.xgtc.proofs.allocation.read_allocation.Statement.{statement}
 use Rattle.xgtc.proofs.allocation.read_allocation.Tie as tie

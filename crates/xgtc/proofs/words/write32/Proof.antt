@@ -10,8 +10,8 @@ use lib.ListN.{length}
 use Rattle.hec.specs.Writes.{protected}
 use Rattle.hec.proofs.Protected.{is-protected}
 use Rattle.octets.specs.Octets.{octets}
-use Rattle.framing.specs.Writes.{put}
-use Rattle.framing.proofs.Steps.{unfit, no-room, done}
+use Rattle.xgem.specs.Writes.{put}
+use Rattle.xgem.proofs.Steps.{unfit, no-room, done}
 use borrow.Author.Needs.{needs}
 use Rattle.xgtc.proofs.words.write32.Statement.{statement}
 use Rattle.xgtc.proofs.words.write32.Tie as tie
