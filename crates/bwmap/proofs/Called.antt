@@ -18,7 +18,7 @@ use Rattle.entries.specs.Standings.{standing, isPlanned}
 use Rattle.entries.proofs.Facts.{ours-is, apart-unplanned}
 use Rattle.series.specs.Limits.{entriesABurst}
 use Rattle.series.specs.declared.Around.{Around}
-use Rattle.series.specs.Series.{Series, entryAt, entryCount, standingsFrom, run, seriesAt, seriesOf, arriving, beyond, verdictOf, planned, plannedOf}
+use Rattle.series.specs.Series.{Series, entryAt, entryCount, standingsFrom, run, seriesAt, seriesOf, outset, beyond, verdictOf, planned, plannedOf}
 use Rattle.bwmap.specs.Verdicts.{roles, verdictsOf, verdicts, entriesFrom, entries, called, readable, entriesOf}
 
 -- what is left of the series that is open with k so far
@@ -113,4 +113,4 @@ module _ (own : Own) (m : List ℕ) where
   called-from (suc j) i around k v = go i j (called-from j (suc i)) around k v (standing own (entryAt m i)) refl
 
   pub called-planned : (carried : ℕ) → called (verdicts own m carried) (entries m) ≡ readable (entriesOf (plannedOf own m carried))
-  called-planned carried = called-from (entryCount m) 0 (arriving carried) 0 ContinuingNothing
+  called-planned carried = called-from (entryCount m) 0 (outset carried) 0 ContinuingNothing

@@ -27,7 +27,7 @@ use Rattle.entries.specs.Standings.{standing, isPlanned, Mine}
 use Rattle.entries.proofs.Facts.{ours-is, standsAs, head-start}
 use Rattle.series.specs.Limits.{wordsABurst, burstsAFrame, entriesABurst}
 use Rattle.series.specs.declared.Around.{Around}
-use Rattle.series.specs.Series.{Series, entryAt, entryCount, standingsFrom, standings, run, seriesOf, burstWords, endOf, arriving, beyond, judged, verdictOf, planned, lastEnd, carriedOver, plannedOf}
+use Rattle.series.specs.Series.{Series, entryAt, entryCount, standingsFrom, standings, run, seriesOf, burstWords, endOf, outset, beyond, judged, verdictOf, planned, lastEnd, carriedOver, plannedOf}
 use Rattle.plan.specs.Plan.{entriesIn, records}
 use Rattle.bwmap.specs.Promises.{Follow, SeriesIn, Every, Because, Account}
 use Rattle.bwmap.specs.Promises.Account.{done, plans, too-long, overlapping, after-the-last}
@@ -113,7 +113,7 @@ module _ (own : Own) (m : List ℕ) where
 
   -- each planned series is one of ours
   pub planned-ours : (carried : ℕ) → Every (SeriesIn own m) (plannedOf own m carried)
-  planned-ours carried = every-planned (SeriesIn own m) (arriving carried) (seriesOf (standings own m)) series-ours
+  planned-ours carried = every-planned (SeriesIn own m) (outset carried) (seriesOf (standings own m)) series-ours
 
 -- ---- why
 
@@ -150,8 +150,8 @@ account around [] = done
 account around (s ∷ l) = account-one around s l (verdictOf around s) (first-reason around s) (account (beyond around s) l) (account around l)
 
 -- every series of ours in a map is planned once, in map order, or passed over for its first reason
-pub every-series-accounted : (own : Own) (m : List ℕ) (carried : ℕ) → Account (arriving carried) (seriesOf (standings own m)) (plannedOf own m carried)
-every-series-accounted own m carried = account (arriving carried) (seriesOf (standings own m))
+pub every-series-accounted : (own : Own) (m : List ℕ) (carried : ℕ) → Account (outset carried) (seriesOf (standings own m)) (plannedOf own m carried)
+every-series-accounted own m carried = account (outset carried) (seriesOf (standings own m))
 
 -- ---- numbers
 
@@ -178,7 +178,7 @@ module _ (own : Own) (m : List ℕ) (carried : ℕ) where
   -- "4 bursts a frame"
   pub bursts-most : length (plannedOf own m carried) ≤ burstsAFrame
   bursts-most =
-      let a = planned-few (arriving carried) (seriesOf (standings own m)) zero-le in
+      let a = planned-few (outset carried) (seriesOf (standings own m)) zero-le in
       omega arith
 
   -- "at most 64 records of four"
@@ -204,5 +204,5 @@ end-low P f around (s ∷ l) h le = go (isPlanned (verdictOf around s)) refl (en
 -- "carried words at most 9,719"
 pub carried-most : (own : Own) (m : List ℕ) (carried : ℕ) → carried < upstreamWords → carriedOver (lastEnd carried (plannedOf own m carried)) < upstreamWords
 carried-most own m carried h =
-    let e = end-low (SeriesIn own m) (λ s x. x .start) (arriving carried) (seriesOf (standings own m)) (series-ours own m) (omega arith) in
+    let e = end-low (SeriesIn own m) (λ s x. x .start) (outset carried) (seriesOf (standings own m)) (series-ours own m) (omega arith) in
     omega arith

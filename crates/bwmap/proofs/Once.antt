@@ -11,7 +11,7 @@ use Rattle.station.specs.Limits.{upstreamWords}
 use Rattle.entries.specs.declared.Own.{Own}
 use Rattle.entries.specs.Standings.{isPlanned}
 use Rattle.series.specs.declared.Around.{Around}
-use Rattle.series.specs.Series.{Series, seriesOf, standings, plannedOf, planned, burstWords, endOf, arriving, beyond, lastEnd, verdictOf}
+use Rattle.series.specs.Series.{Series, seriesOf, standings, plannedOf, planned, burstWords, endOf, outset, beyond, lastEnd, verdictOf}
 use Rattle.bwmap.specs.Upstream.{FrameTime, Burst, finish, sent, carry, bursts, burstsOf, takes, takers, Apart}
 use Rattle.bwmap.specs.Upstream.FrameTime.{dark, frame}
 use Rattle.series.proofs.Judged.{planned-facts}
@@ -46,7 +46,7 @@ planned-apart o around (s ∷ l) = go (isPlanned (verdictOf around s)) refl (pla
 
 -- the bursts of a frame begin after the words carried over, each where the one before has ended or later
 pub frame-apart : (own : Own) (m : List ℕ) (carried : ℕ) → Apart carried (bursts 0 (plannedOf own m carried))
-frame-apart own m carried = apart-from carried (0 + carried) (bursts 0 (plannedOf own m carried)) (omega arith) (planned-apart 0 (arriving carried) (seriesOf (standings own m)))
+frame-apart own m carried = apart-from carried (0 + carried) (bursts 0 (plannedOf own m carried)) (omega arith) (planned-apart 0 (outset carried) (seriesOf (standings own m)))
 
 ends-bursts : (o e : ℕ) (l : List Series) → ends (o + e) (bursts o l) ≡ o + lastEnd e l
 ends-bursts o e [] = refl
@@ -58,7 +58,7 @@ ends-bursts o e (s ∷ l) =
 
 sent-apart : (o carried : ℕ) (t : FrameTime) → Apart (o + carried) (bursts o (sent carried t))
 sent-apart o carried dark = tt
-sent-apart o carried (frame own m) = planned-apart o (arriving carried) (seriesOf (standings own m))
+sent-apart o carried (frame own m) = planned-apart o (outset carried) (seriesOf (standings own m))
 
 pub times-apart : (o carried : ℕ) (l : List FrameTime) → Apart (o + carried) (burstsOf o carried l)
 times-apart o carried [] = tt

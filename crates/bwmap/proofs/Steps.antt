@@ -17,7 +17,7 @@ use Rattle.entries.proofs.Facts.{ours-is, head-start, silent-apart}
 use Rattle.series.specs.Limits.{burstsAFrame}
 use Rattle.plan.specs.Limits.{planNumbers}
 use Rattle.series.specs.declared.Around.{Around}
-use Rattle.series.specs.Series.{Series, entryAt, entryCount, standingsFrom, run, seriesAt, seriesOf, grants, wordsOf, endOf, arriving, beyond, judged, verdictOf, planned, lastEnd, carriedOver, plannedOf}
+use Rattle.series.specs.Series.{Series, entryAt, entryCount, standingsFrom, run, seriesAt, seriesOf, grants, wordsOf, endOf, outset, beyond, judged, verdictOf, planned, lastEnd, carriedOver, plannedOf}
 use Rattle.plan.specs.Records.{mark}
 use Rattle.plan.specs.Plan.{seriesNumbers, numbers, entriesIn, records, messages, written}
 use Rattle.bwmap.specs.Plan.{PlanLeft, counted}
@@ -176,5 +176,5 @@ pub silent-plan
     (record { answer = PlannedAnswer (record { records = 0; bursts = 0; messages = 0; end = end; carried = over }); plan = p })
     (record { answer = PlannedAnswer (counted c (plannedOf own m c)); plan = written (plannedOf own m c) p })
 silent-plan own m p c end over h e o =
-    let n : plannedOf own m c ≡ [] = ap (planned (arriving c)) (silent-none own m 0 (entryCount m) h) in
+    let n : plannedOf own m c ≡ [] = ap (planned (outset c)) (silent-none own m 0 (entryCount m) h) in
     rw (n, o, e)

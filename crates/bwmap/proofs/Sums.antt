@@ -21,7 +21,7 @@ use Rattle.xgtc.proofs.Layouts.{allocation-true, allocation-back}
 use Rattle.entries.specs.declared.Own.{Own}
 use Rattle.entries.specs.declared.Standing.{Standing}
 use Rattle.entries.specs.Standings.{standing, sorted, startUnfit, noRoom, continues, held}
-use Rattle.series.specs.Series.{Series, entryAt, entryCount, standingsFrom, seriesOf, arriving, planned, plannedOf, judged, wordsOf, lastEnd, carriedOver}
+use Rattle.series.specs.Series.{Series, entryAt, entryCount, standingsFrom, seriesOf, outset, planned, plannedOf, judged, wordsOf, lastEnd, carriedOver}
 use Rattle.plan.specs.Records.{headFlags, moreFlags, burstFlags}
 use Rattle.plan.specs.Plan.{numbers, seriesNumbers}
 use Rattle.bwmap.specs.Sums.{mapOf, five, grant, plan, carries, eight, Sum8, Sum9, Sum10, Sum11}
@@ -63,15 +63,15 @@ standings-from own m i (a ∷ l) f e =
     (standings-from own m (suc i) l (f .1)
     (ap (λ (n : ℕ). drop n m) next ∙ sym (drop-drop 8 (8 * i) m) ∙ ap (drop 8) e ∙ drop-at (octets 8 (allocationWord a)) (mapOf l) 8 (octets-length 8 (allocationWord a))))
 
-planned-written : (own : Own) (l : List Allocation) (carried : ℕ) → AllFit l → plannedOf own (mapOf l) carried ≡ planned (arriving carried) (seriesOf (standingsOf own l))
+planned-written : (own : Own) (l : List Allocation) (carried : ℕ) → AllFit l → plannedOf own (mapOf l) carried ≡ planned (outset carried) (seriesOf (standingsOf own l))
 planned-written own l carried f =
     let n : entryCount (mapOf l) ≡ length l = omega (arith, length-map l) in
-    ap (λ (k : ℕ). planned (arriving carried) (seriesOf (standingsFrom own (mapOf l) 0 k))) n
-    ∙ ap (λ (s : List Standing). planned (arriving carried) (seriesOf s)) (standings-from own (mapOf l) 0 l f refl)
+    ap (λ (k : ℕ). planned (outset carried) (seriesOf (standingsFrom own (mapOf l) 0 k))) n
+    ∙ ap (λ (s : List Standing). planned (outset carried) (seriesOf s)) (standings-from own (mapOf l) 0 l f refl)
 
 -- the plan and the carried words, computed from the fields
 abbrev planBy : ℕ → List Allocation → List ℕ
-planBy carried l = numbers (planned (arriving carried) (seriesOf (standingsOf five l)))
+planBy carried l = numbers (planned (outset carried) (seriesOf (standingsOf five l)))
 
 plan-is : (carried : ℕ) (l : List Allocation) → AllFit l → plan carried l ≡ planBy carried l
 plan-is carried l f = ap numbers (planned-written five l carried f)

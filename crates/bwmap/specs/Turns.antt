@@ -15,7 +15,7 @@ use Rattle.entries.specs.Standings.{standing, isPlanned}
 use Rattle.series.specs.Limits.{burstsAFrame, entriesABurst}
 use Rattle.plan.specs.Limits.{numbersARecord}
 use Rattle.series.specs.declared.Around.{Around}
-use Rattle.series.specs.Series.{Series, entryAt, entryCount, standingsFrom, run, seriesOf, grants, wordsOf, arriving, judged, planned, lastEnd}
+use Rattle.series.specs.Series.{Series, entryAt, entryCount, standingsFrom, run, seriesOf, grants, wordsOf, outset, judged, planned, lastEnd}
 use Rattle.plan.specs.Plan.{numbers, records, messages}
 use Rattle.series.specs.Opens.{closed}
 use Rattle.series.specs.declared.Open.{Open}
@@ -112,7 +112,7 @@ toCome own m p w = finished p w (planned (w .around) (seriesOf (rest own m (w .a
 
 -- where a walk begins: the words carried over stand for the last burst
 abbrev pub starting : ℕ → Walk
-starting carried = record { at = 0; records = 0; messages = 0; around = arriving carried }
+starting carried = record { at = 0; records = 0; messages = 0; around = outset carried }
 
 -- the numbers of a walk stay small
 pub record Small (w : Walk) : Type 0 where

@@ -14,7 +14,7 @@ use Rattle.entries.specs.declared.Standing.the-variants.{Apart, Head, More}
 use Rattle.entries.specs.Standings.{isPlanned}
 use Rattle.series.specs.Limits.{entriesABurst}
 use Rattle.series.specs.declared.Around.{Around}
-use Rattle.series.specs.Series.{Series, entryAt, entryCount, standings, seriesAt, arriving, beyond, verdictOf}
+use Rattle.series.specs.Series.{Series, entryAt, entryCount, standings, seriesAt, outset, beyond, verdictOf}
 
 -- what an entry is among the others: alone, with its verdict; the head of a series; or one that goes a series on
 pub data Role : Type 0 where
@@ -41,7 +41,7 @@ verdictsOf around v (opens s ∷ l) =
     ∷ cond (isPlanned (verdictOf around s)) (verdictsOf (beyond around s) (verdictOf around s) l) (verdictsOf around (verdictOf around s) l)
 
 abbrev pub verdicts : Own → List ℕ → ℕ → List Verdict
-verdicts own m carried = verdictsOf (arriving carried) ContinuingNothing (roles 0 (standings own m))
+verdicts own m carried = verdictsOf (outset carried) ContinuingNothing (roles 0 (standings own m))
 
 -- ---- the entries that are called planned
 

@@ -29,7 +29,7 @@ use Rattle.ports.specs.Ports.{noPorts}
 use Rattle.validity.specs.Ranges.{inRange, identityFits, allocsFit, portsFit, partialsFit, slotFits, partialFits}
 use Rattle.timing.specs.Timing.{frameEnd, lostState, lostTime, silence}
 use Rattle.entries.specs.Standings.{standing, sorted, startUnfit, noRoom, continues, held}
-use Rattle.series.specs.Series.{Series, entryAt, standings, seriesOf, arriving, planned, wordsOf}
+use Rattle.series.specs.Series.{Series, entryAt, standings, seriesOf, outset, planned, wordsOf}
 use Rattle.plan.specs.Plan.{records, written}
 use Rattle.bwmap.specs.Promises.{Account}
 use Rattle.plan.specs.Laser.{Sending, laser, burstsOf}
@@ -142,7 +142,7 @@ granted = ap (λ (a : Found Allocation). seriesOf (standing (ownOf (resumed give
 
 foreign : plannedIn (resumed noAllocs) oneEntry (arrives granting) ≡ []
 unfolding plannedIn granting oneEntry grant standing sorted startUnfit noRoom continues held
-foreign = ap (λ (a : Found Allocation). planned (arriving 0) (seriesOf (standing (ownOf (resumed noAllocs)) a ∷ []))) entry
+foreign = ap (λ (a : Found Allocation). planned (outset 0) (seriesOf (standing (ownOf (resumed noAllocs)) a ∷ []))) entry
 
 handled-granting : Handled (resumed noAllocs) (arrives granting) lent false (handled (resumed noAllocs) oneEntry (arrives granting) lent)
 unfolding lengthFits enough memory buffers granting oneEntry lostIn parse
@@ -164,7 +164,7 @@ must-send : (bursts : List Sending) → Asked (resumed given) (mapOf oneEntry gr
 unfolding grant wordsOf
 must-send bursts o =
     let s : Series = record { head = grant; more = [] } in
-    let x = next-planned (omega arith) (omega arith) (omega arith) (subst (λ (l : List Series). Account (arriving 0) l (o .planned)) granted (o .account)) in
+    let x = next-planned (omega arith) (omega arith) (omega arith) (subst (λ (l : List Series). Account (outset 0) l (o .planned)) granted (o .account)) in
     o .are ∙ ap burstsOf (x .is ∙ ap (λ (l : List Series). s ∷ l) (none-planned (x .account)))
 
 pub forgets-allocs : Demand3 forgetsAllocs → ⊥

@@ -30,7 +30,7 @@ use Rattle.payload.specs.Frames.{parse}
 use Rattle.payload.specs.Walk.{memoryBytes}
 use Rattle.series.specs.declared.Around.{Around}
 use Rattle.series.specs.Limits.{wordsABurst, burstsAFrame}
-use Rattle.series.specs.Series.{Series, standings, seriesOf, burstWords, arriving, beyond}
+use Rattle.series.specs.Series.{Series, standings, seriesOf, burstWords, outset, beyond}
 use Rattle.plan.specs.Limits.{planNumbers}
 use Rattle.bwmap.specs.Promises.{Account, done as none-left, plans, too-long, overlapping, after-the-last}
 use Rattle.plan.specs.Laser.{Sending, burstsOf}
@@ -94,7 +94,7 @@ pub record Leads (left : FrameLeft) (to : Station) : Type 0 where
 pub record Asked (right : Station) (m : List ℕ) (bursts : List Sending) : Type 0 where
   pub planned : List Series
   pub are : bursts ≡ burstsOf planned
-  pub account : Account (arriving (right .carried)) (seriesOf (standings (ownOf right) m)) planned
+  pub account : Account (outset (right .carried)) (seriesOf (standings (ownOf right) m)) planned
 
 module _ (call : Station → Arrival → Lent → FrameLeft) (lose : Station → Outcome) where
   module _ (st : Progress) (right own : Station) (k : Stands st right own) (f : List ℕ) where
@@ -127,7 +127,7 @@ module _ (call : Station → Arrival → Lent → FrameLeft) (lose : Station →
       record {
         planned = o .planned;
         are = ap sendings (sym e) ∙ o .are;
-        account = subst (λ (s : Station). Account (arriving (s .carried)) (seriesOf (standings (ownOf s) (mapOf h f))) (o .planned)) (k .history) (o .account);
+        account = subst (λ (s : Station). Account (outset (s .carried)) (seriesOf (standings (ownOf s) (mapOf h f))) (o .planned)) (k .history) (o .account);
       }
 
 -- ---- the account

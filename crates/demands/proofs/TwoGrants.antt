@@ -20,7 +20,7 @@ use Rattle.xgtc.specs.Reads.{readHlend}
 use Rattle.station.specs.declared.Station.{Station}
 use Rattle.station.specs.declared.answers.Answer.the-variants.{Done}
 use Rattle.entries.specs.Standings.{standing, sorted, startUnfit, noRoom, continues, discovery}
-use Rattle.series.specs.Series.{Series, entryAt, standings, seriesOf, arriving, planned, judged, wordsOf}
+use Rattle.series.specs.Series.{Series, entryAt, standings, seriesOf, outset, planned, judged, wordsOf}
 use Rattle.bwmap.specs.Promises.{Account}
 use Rattle.plan.specs.Laser.{burstsOf}
 use Rattle.downstream.specs.Lengths.{lengthFits}
@@ -87,11 +87,11 @@ answer-two = only searching (arrives two) lent Done (handled searching twoEntrie
 
 pub two-planned : plannedIn searching twoEntries (arrives two) ≡ seriesFrom 0 ∷ seriesFrom 100 ∷ []
 unfolding plannedIn seriesFrom grantAt judged wordsOf
-two-planned = ap (planned (arriving 0)) two-series
+two-planned = ap (planned (outset 0)) two-series
 
 -- ---- any engine
 
-both-planned : (p : List Series) → Account (arriving 0) (seriesFrom 0 ∷ seriesFrom 100 ∷ []) p → p ≡ seriesFrom 0 ∷ seriesFrom 100 ∷ []
+both-planned : (p : List Series) → Account (outset 0) (seriesFrom 0 ∷ seriesFrom 100 ∷ []) p → p ≡ seriesFrom 0 ∷ seriesFrom 100 ∷ []
 unfolding seriesFrom grantAt wordsOf
 both-planned p a =
     let x = next-planned (omega arith) (omega arith) (omega arith) a in
@@ -104,4 +104,4 @@ pub sends-both : (call : Station → Arrival → Lent → FrameLeft) → Demand3
 sends-both call d first answer =
     let o = asked call lostLeft d (frame (arrives bare) buffers ∷ []) searching searching
     (on call lostLeft _ fresh fresh begun bare searching searching bare-leads first) two twoEntries reads-two answer in
-    o .are ∙ ap burstsOf (both-planned (o .planned) (subst (λ (l : List Series). Account (arriving 0) l (o .planned)) two-series (o .account)))
+    o .are ∙ ap burstsOf (both-planned (o .planned) (subst (λ (l : List Series). Account (outset 0) l (o .planned)) two-series (o .account)))

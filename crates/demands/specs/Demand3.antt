@@ -20,7 +20,7 @@ use Rattle.station.specs.Limits.{upstreamWords}
 use Rattle.station.specs.States.{holdsIdentity}
 use Rattle.station.specs.States.{silent}
 use Rattle.series.specs.Limits.{ploamuWords}
-use Rattle.series.specs.Series.{Series, arriving, standings, seriesOf}
+use Rattle.series.specs.Series.{Series, outset, standings, seriesOf}
 use Rattle.bwmap.specs.Promises.{SeriesIn, Account}
 use Rattle.plan.specs.Laser.{Grant, Sending, laser, burstOf, burstsOf}
 use Rattle.bwmap.specs.Upstream.{Burst, takers}
@@ -92,7 +92,7 @@ pub record Obeys (first : Station) (h : List Event) (m : List ℕ) (carried : �
   -- and the series of ours, in map order, are each planned once or left out for a fact that is shown
   pub planned : List Series
   pub are : bursts ≡ burstsOf planned
-  pub account : Account (arriving carried) (seriesOf (standings (ownAt first h) m)) planned
+  pub account : Account (outset carried) (seriesOf (standings (ownAt first h) m)) planned
 
 abbrev pub Plans : Answer → Station → Progress → Arrival → FrameLeft → Type 0
 Plans answer first st a left =

@@ -90,8 +90,8 @@ firstOf (r ∷ l) = cond (r .applies) (r .verdict) (firstOf l)
 
 -- what is around a series: the word where the last planned burst ends, and how many the frame has planned before it. As a frame
 -- arrives, the words carried over stand for the last burst
-abbrev pub arriving : ℕ → Around
-arriving carried = record { end = carried; bursts = 0 }
+abbrev pub outset : ℕ → Around
+outset carried = record { end = carried; bursts = 0 }
 
 -- and beyond one that is planned
 abbrev pub beyond : Around → Series → Around
@@ -129,4 +129,4 @@ carriedOver e = e - upstreamWords
 
 -- what is planned of a map, with the words carried over from the frame before
 abbrev pub plannedOf : Own → List ℕ → ℕ → List Series
-plannedOf own m carried = planned (arriving carried) (seriesOf (standings own m))
+plannedOf own m carried = planned (outset carried) (seriesOf (standings own m))

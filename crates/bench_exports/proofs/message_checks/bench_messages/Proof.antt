@@ -1,12 +1,12 @@
--- `bench_exports::messages::bench_messages` meets its contract.
+-- `bench_exports::message_checks::bench_messages` meets its contract.
 -- Assumes nothing.
 use denote.Ref.{now}
 use mathlib.Core.Path.{ap, _∙_}
 use Rattle.station.specs.declared.Station.{Station}
 use Rattle.messages.specs.Receiving.{receiveAll, messagesIn}
 use borrow.Author.Needs.{needs}
-use Rattle.bench_exports.proofs.messages.bench_messages.Statement.{statement}
-use Rattle.bench_exports.proofs.messages.bench_messages.Tie as tie
+use Rattle.bench_exports.proofs.message_checks.bench_messages.Statement.{statement}
+use Rattle.bench_exports.proofs.message_checks.bench_messages.Tie as tie
 
 bench-station-requires : tie.Need-bench-station-requires
 bench-station-requires c κs = search needs

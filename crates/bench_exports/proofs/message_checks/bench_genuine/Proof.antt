@@ -1,4 +1,4 @@
--- `bench_exports::messages::bench_genuine` meets its contract: both keys are the true ones.
+-- `bench_exports::message_checks::bench_genuine` meets its contract: both keys are the true ones.
 -- Assumes nothing.
 use mathlib.Core.Path.{refl, ap, ap₂, _∙_}
 use mathlib.Core.List.{List}
@@ -14,8 +14,8 @@ use Rattle.messages.specs.Receiving.{messagesIn}
 use Rattle.bench_exports.specs.Messages.{benchKey, genuineCountBy}
 use Rattle.bench_exports.proofs.Counted.{count-true}
 use borrow.Author.Needs.{needs}
-use Rattle.bench_exports.proofs.messages.bench_genuine.Statement.{statement}
-use Rattle.bench_exports.proofs.messages.bench_genuine.Tie as tie
+use Rattle.bench_exports.proofs.message_checks.bench_genuine.Statement.{statement}
+use Rattle.bench_exports.proofs.message_checks.bench_genuine.Tie as tie
 
 default-key-requires : tie.Need-default-key-requires
 default-key-requires c κs = search needs

@@ -1,4 +1,4 @@
--- `bench_exports::messages::count_genuine` meets its contract: the count so far, with that of the messages still to come.
+-- `bench_exports::message_checks::count_genuine` meets its contract: the count so far, with that of the messages still to come.
 -- Assumes nothing.
 use mathlib.Core.Path.{_≡_, _∙_, refl, ap}
 use native.Mathlib.Omega.{arith}
@@ -11,8 +11,8 @@ use Rattle.integrity.specs.Integrity.{genuineBy}
 use Rattle.messages.specs.Receiving.{messagesFrom, messagesIn}
 use Rattle.bench_exports.specs.Messages.{oneIf, genuineCountBy}
 use Rattle.bench_exports.proofs.Counted.{counted, counted-all}
-use Rattle.bench_exports.proofs.messages.count_genuine.Statement.{statement}
-use Rattle.bench_exports.proofs.messages.count_genuine.Tie as tie
+use Rattle.bench_exports.proofs.message_checks.count_genuine.Statement.{statement}
+use Rattle.bench_exports.proofs.message_checks.count_genuine.Tie as tie
 
 abbrev Inv-loop : tie.InvT-loop
 Inv-loop usual installed messages n sum₀ i₀ sum i = (n ≡ length messages / 48) × (i ≤ n) × (sum + genuineCountBy usual installed (messagesFrom messages i (n - i)) ≡ genuineCountBy usual installed (messagesIn messages)) × (n < 2 ^ 64) × (sum ≤ i)

@@ -1,4 +1,4 @@
--- `bench_exports::messages::bench_station` meets its contract.
+-- `bench_exports::message_checks::bench_station` meets its contract.
 -- Assumes nothing.
 use mathlib.Core.Path.{_≡_, ap, _∙_}
 use lib.ListN.{replicate}
@@ -8,8 +8,8 @@ use Rattle.station.specs.declared.Activation.the-variants.{Operation}
 use Rattle.link.specs.Link.{installed, withOnu, withKey}
 use Rattle.station.specs.Station.{powerOn, withLink, withActivation}
 use borrow.Author.Needs.{needs}
-use Rattle.bench_exports.proofs.messages.bench_station.Statement.{statement}
-use Rattle.bench_exports.proofs.messages.bench_station.Tie as tie
+use Rattle.bench_exports.proofs.message_checks.bench_station.Statement.{statement}
+use Rattle.bench_exports.proofs.message_checks.bench_station.Tie as tie
 
 linked : {a b : Station} → {k l : Link} → a ≡ b → k ≡ l → withLink a k ≡ withLink b l
 linked {a} {b} {k} {l} p q = ap (λ (s : Station). withLink s k) p ∙ ap (λ (m : Link). withLink b m) q
