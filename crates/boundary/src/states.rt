@@ -9,18 +9,15 @@ ghost use Rattle.layout.specs.Layout.{stored};
 ghost use Rattle.boundary.specs.Calls.{StateIs, lostOn, addOn, removeOn, keyOn, powerOnIn};
 use ids::PortId;
 use layout::Contents;
+use link::KEY_OCTETS;
 use station::Station;
 use station::answers::Outcome;
+use station::limits::REGISTRATION_OCTETS;
+use station::limits::SERIAL_OCTETS;
 
 const STATE_OUT_OF_RANGE: u8 = 1;
 
 const BUFFER_TOO_SHORT: u8 = 3;
-
-const SERIAL_OCTETS: usize = 8;
-
-const KEY_OCTETS: usize = 16;
-
-const REGISTRATION_OCTETS: usize = 36;
 
 fn serial_of(c: &[u8]) -> [u8; SERIAL_OCTETS]
     requires { ⌜ serialOctets ≤ length (now c) ⌝ }

@@ -32,14 +32,13 @@ fn by_usual(m: &[u8]) -> bool
     )
 }
 
-// Whether such a message acts in any state: to check one that is ignored anyway is in vain. In the order of the types:
-// Profile, Key_Control, Sleep_Allow; Assign_ONU-ID, Disable_Serial_Number; Ranging_Time; Deactivate_ONU-ID; all others.
+// Whether such a message acts in any state: to check one that is ignored anyway is in vain.
 fn may_act(broadcast: bool, kind: u8, octet5: u8) -> bool {
     match kind {
-        0x01 | 0x0d | 0x12 => false,
-        0x03 | 0x06 => broadcast,
-        0x04 => !broadcast || octet5 % 2 == 0,
-        0x05 => true,
+        ploam::PROFILE | ploam::KEY_CONTROL | ploam::SLEEP_ALLOW => false,
+        ploam::ASSIGN_ONU_ID | ploam::DISABLE_SERIAL_NUMBER => broadcast,
+        ploam::RANGING_TIME => !broadcast || octet5 % 2 == 0,
+        ploam::DEACTIVATE_ONU_ID => true,
         _ => !broadcast,
     }
 }

@@ -57,14 +57,35 @@ seqNoOf m = octet m 4
 abbrev pub micField : List ℕ → List ℕ
 micField m = take 8 (drop coveredOctets m)
 
--- Table 11-2, downstream: the types that the choice of a key looks at
+-- Table 11-2: the types of downstream messages
+abbrev pub profile : ℕ
+profile = 0x01
+
+abbrev pub assignOnuId : ℕ
+assignOnuId = 0x03
+
+abbrev pub rangingTime : ℕ
+rangingTime = 0x04
+
 abbrev pub deactivateOnuId : ℕ
 deactivateOnuId = 0x05
+
+abbrev pub disableSerialNumber : ℕ
+disableSerialNumber = 0x06
 
 abbrev pub requestRegistration : ℕ
 requestRegistration = 0x09
 
--- Table 11-3, upstream
+abbrev pub assignAllocId : ℕ
+assignAllocId = 0x0a
+
+abbrev pub keyControl : ℕ
+keyControl = 0x0d
+
+abbrev pub sleepAllow : ℕ
+sleepAllow = 0x12
+
+-- Table 11-3: those of upstream messages that document 01 sends
 abbrev pub serialNumberOnu : ℕ
 serialNumberOnu = 0x01
 

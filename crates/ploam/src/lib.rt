@@ -9,15 +9,31 @@ use ids::OnuId;
 
 pub const MESSAGE_OCTETS: usize = 48;
 
-// Types of Table 11-2 (downstream) that the choice of a key looks at.
+// Table 11-2: the types of downstream messages.
+pub const PROFILE: u8 = 0x01;
+
+pub const ASSIGN_ONU_ID: u8 = 0x03;
+
+pub const RANGING_TIME: u8 = 0x04;
+
 pub const DEACTIVATE_ONU_ID: u8 = 0x05;
+
+pub const DISABLE_SERIAL_NUMBER: u8 = 0x06;
 
 pub const REQUEST_REGISTRATION: u8 = 0x09;
 
-// Those of Table 11-3 (upstream).
+pub const ASSIGN_ALLOC_ID: u8 = 0x0a;
+
+pub const KEY_CONTROL: u8 = 0x0d;
+
+pub const SLEEP_ALLOW: u8 = 0x12;
+
+// Table 11-3: those of upstream messages that document 01 sends.
 pub const SERIAL_NUMBER_ONU: u8 = 0x01;
 
 pub const REGISTRATION: u8 = 0x02;
+
+pub const ACKNOWLEDGEMENT: u8 = 0x09;
 
 // Vendor-ID and vendor-specific serial number.
 pub struct SerialNumber {

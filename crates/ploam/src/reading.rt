@@ -5,19 +5,28 @@ ghost use Prim.Native.Nat.{_+_, _≤_};
 ghost use lib.ListN.{length};
 ghost use Rattle.ploam.specs.Layout.{messageOctets, at16, at32, addressBy};
 ghost use Rattle.ploam.specs.Reading.{serialAt, adjustmentOf, switchOf, changeOf, onuIn, allocIn, contentOf, received};
+use super::ASSIGN_ALLOC_ID;
+use super::ASSIGN_ONU_ID;
 use super::Adjustment;
 use super::AllocChange;
 use super::Content;
+use super::DEACTIVATE_ONU_ID;
+use super::DISABLE_SERIAL_NUMBER;
+use super::KEY_CONTROL;
 use super::MESSAGE_OCTETS;
 use super::Message;
+use super::PROFILE;
+use super::RANGING_TIME;
+use super::REQUEST_REGISTRATION;
 use super::Received;
+use super::SLEEP_ALLOW;
 use super::SerialNumber;
 use super::Switch;
 use ids::AllocId;
 use ids::OnuId;
 
 // An ONU-ID in two octets has ten bits; the upper six are ignored.
-const ADDRESSES: u16 = 1024;
+pub const ADDRESSES: u16 = 1024;
 
 // The ONU-ID that two octets of a message name.
 pub fn address(high: u8, low: u8) -> OnuId
@@ -111,15 +120,15 @@ fn content(m: &[u8]) -> Content
 {
     let kind = m[2];
     match kind {
-        0x01 => Content::Profile,
-        0x03 => Content::AssignOnuId(onu_in(m), serial_at(m, 6)),
-        0x04 => Content::RangingTime(adjustment(m[4]), number32(m, 5)),
-        0x05 => Content::DeactivateOnuId,
-        0x06 => Content::DisableSerialNumber(switch(m[4]), serial_at(m, 5)),
-        0x09 => Content::RequestRegistration,
-        0x0a => Content::AssignAllocId(alloc_in(m), change(m[6])),
-        0x0d => Content::KeyControl,
-        0x12 => Content::SleepAllow,
+        PROFILE => Content::Profile,
+        ASSIGN_ONU_ID => Content::AssignOnuId(onu_in(m), serial_at(m, 6)),
+        RANGING_TIME => Content::RangingTime(adjustment(m[4]), number32(m, 5)),
+        DEACTIVATE_ONU_ID => Content::DeactivateOnuId,
+        DISABLE_SERIAL_NUMBER => Content::DisableSerialNumber(switch(m[4]), serial_at(m, 5)),
+        REQUEST_REGISTRATION => Content::RequestRegistration,
+        ASSIGN_ALLOC_ID => Content::AssignAllocId(alloc_in(m), change(m[6])),
+        KEY_CONTROL => Content::KeyControl,
+        SLEEP_ALLOW => Content::SleepAllow,
         _ => Content::Unknown(kind),
     }
 }

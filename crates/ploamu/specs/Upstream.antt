@@ -8,7 +8,7 @@ use lib.Dec.{eqb, leb, ltb}
 use Rattle.ids.specs.Ids.{broadcastOnu}
 use Rattle.ids.specs.declared.OnuId.{OnuId}
 use Rattle.octets.specs.Octets.{octets}
-use Rattle.ploam.specs.Layout.{messageOctets, octet, number32, addressOf, typeOf, seqNoOf}
+use Rattle.ploam.specs.Layout.{messageOctets, addresses, octet, number32, addressOf, typeOf, seqNoOf}
 use Rattle.ploam.specs.Layout.{serialNumberOnu, registration, acknowledgement}
 use Rattle.ploam.specs.Reading.{serialFrom}
 use Rattle.ploam.specs.declared.SerialNumber.{SerialNumber}
@@ -56,7 +56,7 @@ upstreamOctets message id =
 
 -- the ONU-ID field has ten bits
 abbrev pub fitting : UpstreamMessage → Bool
-fitting message = leb (upstreamAddress message .0) 1023
+fitting message = ltb (upstreamAddress message .0) addresses
 
 -- reading it again: the Registration ID, and the rest
 abbrev pub registrationId : List ℕ → List ℕ
@@ -93,5 +93,5 @@ asSent (Acknowledgement onu seq code) = Acknowledgement onu seq code
 -- each number fits its field, as the types of the code have it
 abbrev pub Numbers : UpstreamMessage → Type 0
 Numbers (SerialNumberOnu serial delay) = (serial .vendor < 2 ^ 32) × (serial .vssn < 2 ^ 32)
-Numbers (Registration onu seq) = onu .0 < 1024
-Numbers (Acknowledgement onu seq code) = onu .0 < 1024
+Numbers (Registration onu seq) = onu .0 < addresses
+Numbers (Acknowledgement onu seq code) = onu .0 < addresses

@@ -7,8 +7,11 @@ ghost use Rattle.ploamu.specs.Upstream.{acknowledged, heardAs, heard, re
 use super::Heard;
 use super::UpstreamMessage;
 use ids::OnuId;
+use ploam::ACKNOWLEDGEMENT;
 use ploam::Completion;
 use ploam::MESSAGE_OCTETS;
+use ploam::REGISTRATION;
+use ploam::SERIAL_NUMBER_ONU;
 use ploam::reading::address;
 use ploam::reading::serial_number;
 
@@ -35,12 +38,12 @@ fn content(m: &[u8]) -> Heard
 {
     let kind = m[2];
     match kind {
-        0x01 => Heard::Said(UpstreamMessage::SerialNumberOnu(
+        SERIAL_NUMBER_ONU => Heard::Said(UpstreamMessage::SerialNumberOnu(
             serial_number([m[4], m[5], m[6], m[7], m[8], m[9], m[10], m[11]]),
             octets::join32(m[12], m[13], m[14], m[15]),
         )),
-        0x02 => Heard::Said(UpstreamMessage::Registration(address(m[0], m[1]), m[3])),
-        0x09 => acknowledged(address(m[0], m[1]), m[3], m[4]),
+        REGISTRATION => Heard::Said(UpstreamMessage::Registration(address(m[0], m[1]), m[3])),
+        ACKNOWLEDGEMENT => acknowledged(address(m[0], m[1]), m[3], m[4]),
         _ => Heard::Other,
     }
 }

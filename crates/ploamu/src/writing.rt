@@ -7,6 +7,7 @@ ghost use lib.ListN.{length, replicate};
 ghost use lib.Seq.{paste};
 ghost use Rattle.aes.specs.Words.{Octets};
 ghost use Rattle.octets.specs.Octets.{octets};
+ghost use Rattle.ids.specs.Ids.{broadcastOnu};
 ghost use Rattle.ploam.specs.Layout.{coveredOctets, typeOf, serialNumberOnu, registration, acknowledgement};
 ghost use Rattle.ploamu.specs.Upstream.{capped};
 ghost use Rattle.ploamu.specs.Upstream.{upstreamAddress, upstreamOctets};
@@ -17,19 +18,18 @@ use cmac::Prepared;
 use ids::OnuId;
 use integrity::COVERED_OCTETS;
 use integrity::Direction;
+use ploam::ACKNOWLEDGEMENT;
 use ploam::MESSAGE_OCTETS;
 use ploam::REGISTRATION;
 use ploam::SERIAL_NUMBER_ONU;
 use ploam::SerialNumber;
-
-// The type of Table 11-3 that the choice of a key does not look at.
-const ACKNOWLEDGEMENT: u8 = 0x09;
+use ploam::reading::ADDRESSES;
 
 // 13.1.2: the longest random delay, 48 microseconds in bit times.
 const LONGEST_DELAY: u32 = 119439;
 
 // The ONU-ID field has ten bits, and Serial_Number_ONU is sent from the broadcast ONU-ID.
-const WIDEST_ONU: u16 = 1023;
+const WIDEST_ONU: u16 = ADDRESSES - 1;
 
 fn capped(delay: u32) -> u32
     ensures { λ r. ⌜ r ≡ capped delay ⌝ }
@@ -42,7 +42,7 @@ fn capped(delay: u32) -> u32
 }
 
 fn serial_octets(serial: SerialNumber, delay: u32) -> [u8; 40]
-    ensures { λ r. ⌜ r ≡ octets 2 1023 ++ serialNumberOnu ∷ 0 ∷ (octets 4 (serial .vendor) ++ octets 4 (serial .vssn) ++ octets 4 delay ++ replicate 24 0) ⌝ }
+    ensures { λ r. ⌜ r ≡ octets 2 (broadcastOnu .0) ++ serialNumberOnu ∷ 0 ∷ (octets 4 (serial .vendor) ++ octets 4 (serial .vssn) ++ octets 4 delay ++ replicate 24 0) ⌝ }
 {
     let onu = octets::split16(WIDEST_ONU);
     let vendor = octets::split32(serial.vendor);
