@@ -1,6 +1,6 @@
 -- The upstream messages of clause 11.3.4 that document 01 sends: their octets, and reading them again.
 -- Assumes nothing.
-use Prim.Native.Nat.{ℕ, _<_, _^_}
+use Prim.Native.Nat.{ℕ, _-_, _<_, _^_}
 use mathlib.Core.Bool.{Bool, true, cond}
 use mathlib.Core.List.{List, [], _∷_, _++_}
 use lib.ListN.{length, take, drop, replicate}
@@ -56,7 +56,7 @@ upstreamOctets message id =
 
 -- the ONU-ID field has ten bits
 abbrev pub fitting : UpstreamMessage → Bool
-fitting message = ltb (upstreamAddress message .0) addresses
+fitting message = leb (upstreamAddress message .0) (addresses - 1)
 
 -- reading it again: the Registration ID, and the rest
 abbrev pub registrationId : List ℕ → List ℕ
