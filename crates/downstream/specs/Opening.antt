@@ -22,10 +22,13 @@ byHlend unreadable octets = Unread HlendUnreadable
 byHlend short octets = Unread HlendUnreadable
 byHlend (fields h) octets = cond (leb (headerEnd h) octets) (Opened h) (Unread HeaderTooLong)
 
--- 1: "state out of range", 2: "frame length unfit", 3: "a buffer too short", for a call whose lent buffers have room or not
-unfoldable pub opening : Station → List ℕ → Bool → Opening
-opening s f room =
-    cond (not (inRange s)) (Refused StateOutOfRange)
-    (cond (not (lengthFits (length f))) (Refused FrameLengthUnfit)
+-- 2: "frame length unfit", 3: "a buffer too short", for a call whose lent buffers have room or not: of the frame alone
+abbrev pub tested : List ℕ → Bool → Opening
+tested f room =
+    cond (not (lengthFits (length f))) (Refused FrameLengthUnfit)
     (cond (not room) (Refused BufferTooShort)
-    (byHlend (readHlend f) (length f))))
+    (byHlend (readHlend f) (length f)))
+
+-- 1: "state out of range"
+unfoldable pub opening : Station → List ℕ → Bool → Opening
+opening s f room = cond (not (inRange s)) (Refused StateOutOfRange) (tested f room)

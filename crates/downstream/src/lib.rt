@@ -2,7 +2,7 @@
 // refuses a frame is tested here and nowhere else, for every call that is lent one.
 ghost use mathlib.Core.Path.{_≡_};
 ghost use Rattle.xgtc.specs.Reads.{foundHlend};
-ghost use Rattle.downstream.specs.Opening.{byHlend, opening};
+ghost use Rattle.downstream.specs.Opening.{byHlend, tested, opening};
 
 pub mod lengths;
 pub mod partitions;
@@ -34,13 +34,10 @@ fn by_hlend(read: HlendRead, octets: usize) -> Opening
     }
 }
 
-// Tested in the order of the numbers. `room` says whether the lent buffers are long enough; who is lent none has room.
-pub fn open(s: Station, frame: &[u8], room: bool) -> Opening
-    ensures { λ r. ⌜ r ≡ opening s (now (frame .entry)) room ⌝ }
+// 2 to 5, of the frame alone.
+fn test(frame: &[u8], room: bool) -> Opening
+    ensures { λ r. ⌜ r ≡ tested (now (frame .entry)) room ⌝ }
 {
-    if !validity::in_range(s) {
-        return Opening::Refused(Answer::StateOutOfRange);
-    }
     if !lengths::length_fits(frame.len()) {
         return Opening::Refused(Answer::FrameLengthUnfit);
     }
@@ -48,4 +45,15 @@ pub fn open(s: Station, frame: &[u8], room: bool) -> Opening
         return Opening::Refused(Answer::BufferTooShort);
     }
     by_hlend(xgtc::hlend::read_hlend(frame), frame.len())
+}
+
+// Tested in the order of the numbers. `room` says whether the lent buffers are long enough; who is lent none has room. So small
+// that it is merged into its callers, and the station is not copied for it.
+pub fn open(s: Station, frame: &[u8], room: bool) -> Opening
+    ensures { λ r. ⌜ r ≡ opening s (now (frame .entry)) room ⌝ }
+{
+    if !validity::in_range(s) {
+        return Opening::Refused(Answer::StateOutOfRange);
+    }
+    test(frame, room)
 }
