@@ -61,7 +61,9 @@ pub extern "C" fn lingbarrow_frame(
             let written = r.counts;
             put_counts(counts, written);
             let outcome = r.outcome;
-            states::settle(outcome, state)
+            let answer = outcome.answer;
+            let next = outcome.station;
+            states::put_back(answer, next, state)
         }
         Contents::Unreadable => {
             put_counts(counts, Counts::none());

@@ -11,6 +11,7 @@ use ids::PortId;
 use layout::Contents;
 use link::KEY_OCTETS;
 use station::Station;
+use station::answers::Answer;
 use station::answers::Outcome;
 use station::limits::REGISTRATION_OCTETS;
 use station::limits::SERIAL_OCTETS;
@@ -47,13 +48,19 @@ fn registration_of(c: &[u8]) -> [u8; REGISTRATION_OCTETS]
 }
 
 // The station goes back where it came from, and the answer by its number.
-pub(crate) fn settle(o: Outcome, state: &mut [u8]) -> u8
+pub(crate) fn put_back(answer: Answer, s: Station, state: &mut [u8]) -> u8
+    ensures { λ r. ⌜ (r ≡ answerNumber answer) × (now (state .exit) ≡ stored s (now (state .entry))) ⌝ }
+{
+    layout::write_state(s, state);
+    answer.number()
+}
+
+fn settle(o: Outcome, state: &mut [u8]) -> u8
     ensures { λ r. ⌜ (r ≡ answerNumber (o .answer)) × (now (state .exit) ≡ stored (o .station) (now (state .entry))) ⌝ }
 {
     let answer = o.answer;
     let station = o.station;
-    layout::write_state(station, state);
-    answer.number()
+    put_back(answer, station, state)
 }
 
 // A station that is powered on, in O1 with nothing held.

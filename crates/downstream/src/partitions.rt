@@ -1,12 +1,11 @@
 // Where the partitions of a downstream frame end (clause 8.1).
 ghost use mathlib.Core.Path.{_≡_};
 ghost use Rattle.downstream.specs.Partitions.{mapEnd, headerEnd};
+use entries::STRUCTURE_OCTETS;
 use ploam::MESSAGE_OCTETS;
 use xgtc::hlend::Hlend;
 
 pub const HLEND_OCTETS: usize = 4;
-
-const STRUCTURE_OCTETS: usize = 8;
 
 pub fn map_end(h: Hlend) -> usize
     ensures { λ r. ⌜ r ≡ mapEnd h ⌝ }
