@@ -20,7 +20,7 @@ extern "C" {
 #endif
 
 /* Lengths of the lent buffers: what is shorter is answered 3, what is longer is not touched past its length. */
-#define LINGBARROW_STATE_BYTES 208
+#define LINGBARROW_STATE_BYTES (LINGBARROW_AT_RESERVED + 1) /* 208 */
 #define LINGBARROW_SERIAL_BYTES 8
 #define LINGBARROW_REGISTRATION_BYTES 36
 #define LINGBARROW_KEY_BYTES 16
@@ -48,20 +48,43 @@ extern "C" {
 #define LINGBARROW_NOT_WRITTEN 11
 
 /* The state is bytes, numbers with their most significant byte first; each state has exactly one form, and copying it is all
- * that saving it takes. Keep it with the port memory of the same run. Offsets worth reading: */
-#define LINGBARROW_AT_STATE 0    /* 1 byte: 1, 2 (O2-3), 4, 5, 6, 7 */
-#define LINGBARROW_AT_ONU_ID 49  /* 2 bytes: 1023 while none is held */
-#define LINGBARROW_AT_DELAY 84   /* 4 bytes: equalization delay in bit times */
+ * that saving it takes. Keep it with the port memory of the same run. A state holds secrets, the Registration ID and the key: who
+ * may read or save a state may read them.
+ *
+ * At most so many are held, and a state has room for as many: */
+#define LINGBARROW_ADDED_ALLOCS 16 /* added Alloc-IDs */
+#define LINGBARROW_MOST_OWED 8     /* answers owed */
+#define LINGBARROW_ADDED_PORTS 16  /* added ports */
+#define LINGBARROW_SLOTS 17        /* slots of port memory: of the management port, and of each added port */
+
+/* Where each field stands: where the one before it does, plus that one's bytes. */
+#define LINGBARROW_AT_STATE 0                                                               /* 1: 1, 2 (O2-3), 4, 5, 6, 7 */
+#define LINGBARROW_AT_TIME (LINGBARROW_AT_STATE + 1)                                        /* 4: frame times left of TO1 in O4, of TO2 in O6 */
+#define LINGBARROW_AT_SERIAL (LINGBARROW_AT_TIME + 4)                                       /* 8 */
+#define LINGBARROW_AT_REGISTRATION (LINGBARROW_AT_SERIAL + LINGBARROW_SERIAL_BYTES)         /* 36: secret */
+#define LINGBARROW_AT_ONU_ID (LINGBARROW_AT_REGISTRATION + LINGBARROW_REGISTRATION_BYTES)   /* 2: 1023 while none is held */
+#define LINGBARROW_AT_ALLOC_COUNT (LINGBARROW_AT_ONU_ID + 2)                                /* 1: how many are held */
+#define LINGBARROW_AT_ALLOC_IDS (LINGBARROW_AT_ALLOC_COUNT + 1)                             /* 2 each, 0 past the count */
+#define LINGBARROW_AT_DELAY (LINGBARROW_AT_ALLOC_IDS + 2 * LINGBARROW_ADDED_ALLOCS)         /* 4: equalization delay in bit times */
+#define LINGBARROW_AT_KEY_HELD (LINGBARROW_AT_DELAY + 4)                                    /* 1: 1 while a key is held, else 0 */
+#define LINGBARROW_AT_KEY (LINGBARROW_AT_KEY_HELD + 1)                                      /* 16: secret */
+#define LINGBARROW_AT_OWED_COUNT (LINGBARROW_AT_KEY + LINGBARROW_KEY_BYTES)                 /* 1: how many are owed */
+#define LINGBARROW_AT_OWED (LINGBARROW_AT_OWED_COUNT + 1)                                   /* 2 each: 0 for a Registration, else completion code + 1; SeqNo */
+#define LINGBARROW_AT_PORT_IDS (LINGBARROW_AT_OWED + 2 * LINGBARROW_MOST_OWED)              /* 2 each, 0 where the slot is empty */
+#define LINGBARROW_AT_PARTIALS (LINGBARROW_AT_PORT_IDS + 2 * LINGBARROW_ADDED_PORTS)        /* 2 each: bytes of the slot's unfinished SDU */
+#define LINGBARROW_AT_WAITING (LINGBARROW_AT_PARTIALS + 2 * LINGBARROW_SLOTS)               /* 1 each: 1 while the slot's port waits, else 0 */
+#define LINGBARROW_AT_CARRIED (LINGBARROW_AT_WAITING + LINGBARROW_SLOTS)                    /* 2: words that the last burst takes of the next frame */
+#define LINGBARROW_AT_RESERVED (LINGBARROW_AT_CARRIED + 2)                                  /* 1: 0 */
 
 /* Bytes of stack that a call takes at most, its arguments and return address included, as measured on this build by tests/stack,
  * which fails if a call takes more. What the caller's own frames, a signal handler or an interrupt need comes on top. */
 #define LINGBARROW_STACK_POWER_ON 624
-#define LINGBARROW_STACK_FRAME 3848
+#define LINGBARROW_STACK_FRAME 3680
 #define LINGBARROW_STACK_LOST 1584
 #define LINGBARROW_STACK_ADD_PORT 1856
 #define LINGBARROW_STACK_REMOVE_PORT 1856
 #define LINGBARROW_STACK_GIVE_KEY 1600
-#define LINGBARROW_STACK_STRETCH 1200
+#define LINGBARROW_STACK_STRETCH 1328
 #define LINGBARROW_STACK_WRITE_HLEND 160
 #define LINGBARROW_STACK_WRITE_ALLOCATION 192
 #define LINGBARROW_STACK_WRITE_XGEM_FRAME 208
@@ -71,16 +94,16 @@ uint8_t lingbarrow_power_on(uint8_t *state, size_t state_length, const uint8_t *
                             const uint8_t *registration, size_t registration_length);
 
 /* A frame has arrived, descrambled and error-corrected. 0 to 6.
- * `delay` is the random delay of Serial_Number_ONU in bit times.
+ * `random_delay` is that of Serial_Number_ONU in bit times.
  * The plan gets records of four numbers: Alloc-ID; flags (head 1, head's PLOAMu 2, DBRu 4, FWI 8, profile times 16); burst start
  * in words; GrantSize in words. Replies are messages of 48 bytes, one for each planned burst with PLOAMu, in order. Deliveries
  * are Port-ID (2 bytes), length (2), bytes, one after another.
  * `counts` gets records, replies and bytes of deliveries: size_t, so that they index the buffers as they are, and apart from the
  * state, so that a saved state has no leftovers of a call. What lies past the counts is as it was. */
 uint8_t lingbarrow_frame(uint8_t *state, size_t state_length, uint8_t *memory, size_t memory_length,
-                         const uint8_t *frame, size_t frame_length, uint32_t delay, uint16_t *plan, size_t plan_length,
-                         uint8_t *replies, size_t replies_length, uint8_t *deliveries, size_t deliveries_length,
-                         size_t *counts, size_t counts_length);
+                         const uint8_t *frame, size_t frame_length, uint32_t random_delay,
+                         uint16_t *plan, size_t plan_length, uint8_t *replies, size_t replies_length,
+                         uint8_t *deliveries, size_t deliveries_length, size_t *counts, size_t counts_length);
 
 /* A frame time in which the synchroniser reports LODS. 0, 1 or 3. */
 uint8_t lingbarrow_lost(uint8_t *state, size_t state_length);

@@ -22,7 +22,7 @@ extern "C" {
     pub fn lingbarrow_stretch(s: *const u8, sn: usize, f: *const u8, f_n: usize, k: usize, p: *mut usize, pn: usize) -> u8;
 }
 
-/// The one form of a state, by the table of crates/layout/specs/Layout.antt.
+/// The one form of a state, in the order of crates/layout/specs/Offsets.antt.
 pub fn octets(s: &Station) -> [u8; STATE] {
     let mut o = Vec::with_capacity(STATE);
     o.push(s.activation.number());

@@ -4,7 +4,7 @@
 mod raw;
 
 /// Bytes of a state.
-pub const STATE_BYTES: usize = 208;
+pub const STATE_BYTES: usize = at::RESERVED + 1;
 /// Bytes of port memory: 17 slots of 2,048.
 pub const MEMORY_BYTES: usize = 34_816;
 /// Numbers of a plan: 64 records of four.
@@ -14,16 +14,38 @@ pub const REPLY_BYTES: usize = 192;
 /// A frame has 4 bytes to so many, a multiple of 4.
 pub const FRAME_MOST: usize = 135_432;
 
+/// Where each field of a state stands: where the one before it does, plus that one's bytes. The C header says what each holds; the
+/// Registration ID and the key are secret.
+pub mod at {
+    pub const STATE: usize = 0;
+    pub const TIME: usize = STATE + 1;
+    pub const SERIAL: usize = TIME + 4;
+    pub const REGISTRATION: usize = SERIAL + 8;
+    pub const ONU_ID: usize = REGISTRATION + 36;
+    pub const ALLOC_COUNT: usize = ONU_ID + 2;
+    pub const ALLOC_IDS: usize = ALLOC_COUNT + 1;
+    pub const DELAY: usize = ALLOC_IDS + 2 * 16;
+    pub const KEY_HELD: usize = DELAY + 4;
+    pub const KEY: usize = KEY_HELD + 1;
+    pub const OWED_COUNT: usize = KEY + 16;
+    pub const OWED: usize = OWED_COUNT + 1;
+    pub const PORT_IDS: usize = OWED + 2 * 8;
+    pub const PARTIALS: usize = PORT_IDS + 2 * 16;
+    pub const WAITING: usize = PARTIALS + 2 * 17;
+    pub const CARRIED: usize = WAITING + 17;
+    pub const RESERVED: usize = CARRIED + 2;
+}
+
 /// Bytes of stack that each call of the library takes at most, as the C header has them. What a wrapper takes for itself and what the
 /// caller's own frames need comes on top.
 pub mod stack {
     pub const POWER_ON: usize = 624;
-    pub const FRAME: usize = 3_848;
+    pub const FRAME: usize = 3_680;
     pub const LOST: usize = 1_584;
     pub const ADD_PORT: usize = 1_856;
     pub const REMOVE_PORT: usize = 1_856;
     pub const GIVE_KEY: usize = 1_600;
-    pub const STRETCH: usize = 1_200;
+    pub const STRETCH: usize = 1_328;
     pub const WRITE_HLEND: usize = 160;
     pub const WRITE_ALLOCATION: usize = 192;
     pub const WRITE_XGEM_FRAME: usize = 208;
@@ -177,7 +199,7 @@ impl Station {
 
     /// Where the station stands; `None` for bytes that are no state's.
     pub fn activation(&self) -> Option<Activation> {
-        Some(match self.0[0] {
+        Some(match self.0[at::STATE] {
             1 => Activation::Initial,
             2 => Activation::SerialNumber,
             4 => Activation::Ranging,
@@ -190,14 +212,14 @@ impl Station {
 
     /// The ONU-ID, 1023 while none is held.
     pub fn onu(&self) -> OnuId {
-        OnuId(u16::from_be_bytes([self.0[49], self.0[50]]))
+        OnuId(u16::from_be_bytes([self.0[at::ONU_ID], self.0[at::ONU_ID + 1]]))
     }
 
     /// A frame has arrived. Lost delineation is no error here: the frame is otherwise done, and `lost` says so.
-    pub fn frame(&mut self, frame: &[u8], delay: u32, lent: &mut Buffers) -> Result<Counts, Error> {
+    pub fn frame(&mut self, frame: &[u8], random_delay: u32, lent: &mut Buffers) -> Result<Counts, Error> {
         let mut counts = [0usize; 3];
         let answer =
-            raw::frame(&mut self.0, &mut lent.memory, frame, delay, &mut lent.plan, &mut lent.replies, &mut lent.deliveries, &mut counts);
+            raw::frame(&mut self.0, &mut lent.memory, frame, random_delay, &mut lent.plan, &mut lent.replies, &mut lent.deliveries, &mut counts);
         let lost = match Error::of(answer) {
             None => false,
             Some(Error::DelineationLost) => true,

@@ -13,7 +13,7 @@ use Rattle.cmac.specs.Tags.{preparedBy}
 use Rattle.ploam.specs.Layout.{messageOctets, messageAt}
 use Rattle.integrity.specs.Integrity.{defaultKey, genuineBy}
 use Rattle.integrity.proofs.Keys.{octets-take, genuine-prepared}
-use Rattle.activation.specs.Receiving.{messagesFrom}
+use Rattle.messages.specs.Receiving.{messagesFrom}
 use Rattle.bench_exports.specs.Messages.{oneIf, genuineCount, genuineCountBy}
 
 module _ (usual installed : Prepared) (b : List ℕ) (n i sum : ℕ) where

@@ -5,8 +5,8 @@ use Prim.Native.Nat.{ℕ, zero, suc, _+_}
 use Rattle.ids.specs.declared.AllocId.{AllocId}
 use Rattle.station.specs.declared.Activation.the-variants.{Operation}
 use Rattle.entries.specs.declared.Own.{Own}
-use Rattle.bwmap.specs.declared.Answer.{Answer}
-use Rattle.bwmap.specs.declared.Answer.the-variants.{Planned, PlanTooShort}
+use Rattle.bwmap.specs.declared.Planning.{Planning}
+use Rattle.bwmap.specs.declared.Planning.the-variants.{Planned, PlanTooShort}
 
 abbrev pub allocsFrom : ℕ → ℕ → List AllocId
 allocsFrom zero n = []
@@ -15,6 +15,6 @@ allocsFrom (suc count) n = record { 0 = n } ∷ allocsFrom count (n + 11)
 abbrev pub benchOwn : Own
 benchOwn = record { activation = Operation; onu = record { 0 = 5 }; allocs = record { ids = allocsFrom 16 2000; count = 16 } }
 
-abbrev pub recordsOf : Answer → ℕ
+abbrev pub recordsOf : Planning → ℕ
 recordsOf (Planned p) = p .records
 recordsOf PlanTooShort = 0

@@ -1,6 +1,6 @@
 // What bench/ calls from Rust: loops over the library's functions, long enough to be timed.
 mod map_walk;
-mod messages;
+mod message_checks;
 mod payload_walk;
 
 use hec::Reading32;

@@ -2,7 +2,7 @@
 ghost use mathlib.Core.Path.{_≡_};
 ghost use Rattle.bwmap.specs.Plan.{planOf};
 ghost use Rattle.bench_exports.specs.Maps.{benchOwn, recordsOf};
-use bwmap::Answer;
+use bwmap::Planning;
 use entries::Own;
 use ids::AllocId;
 use ids::OnuId;
@@ -40,12 +40,12 @@ fn bench_own() -> Own
     }
 }
 
-fn records_of(answer: Answer) -> usize
+fn records_of(answer: Planning) -> usize
     ensures { λ r. ⌜ r ≡ recordsOf answer ⌝ }
 {
     match answer {
-        Answer::Planned(p) => p.records,
-        Answer::PlanTooShort => 0,
+        Planning::Planned(p) => p.records,
+        Planning::PlanTooShort => 0,
     }
 }
 

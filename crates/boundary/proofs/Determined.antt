@@ -3,30 +3,30 @@
 use mathlib.Core.Path.{_≡_, _∙_, sym}
 use mathlib.Core.List.{List}
 use Prim.Native.Nat.{ℕ}
-use Rattle.arrival.specs.Lengths.{Lent}
-use Rattle.boundary.specs.Calls.{Left, lostOn, addOn, removeOn, keyOn, powerOnIn}
-use Rattle.boundary.specs.Frames.{FrameLeft, PlaceLeft, frameOn, placeOn}
+use Rattle.frame.specs.Given.{Arrival, Lent}
+use Rattle.boundary.specs.Calls.{StateLeft, lostOn, addOn, removeOn, keyOn, powerOnIn}
+use Rattle.boundary.specs.Frames.{BuffersLeft, PlaceLeft, frameOn, placeOn}
 use Rattle.boundary.specs.Writers.{Target, hlendIn, allocationIn, xgemFrameIn}
 
-pub power-on-once : (b serial registration : List ℕ) (x y : Left) → x ≡ powerOnIn b serial registration → y ≡ powerOnIn b serial registration → x ≡ y
+pub power-on-once : (b serial registration : List ℕ) (x y : StateLeft) → x ≡ powerOnIn b serial registration → y ≡ powerOnIn b serial registration → x ≡ y
 power-on-once b serial registration x y p q = p ∙ sym q
 
-pub lost-once : (b : List ℕ) (x y : Left) → x ≡ lostOn b → y ≡ lostOn b → x ≡ y
+pub lost-once : (b : List ℕ) (x y : StateLeft) → x ≡ lostOn b → y ≡ lostOn b → x ≡ y
 lost-once b x y p q = p ∙ sym q
 
-pub add-once : (b : List ℕ) (port : ℕ) (x y : Left) → x ≡ addOn b port → y ≡ addOn b port → x ≡ y
+pub add-once : (b : List ℕ) (port : ℕ) (x y : StateLeft) → x ≡ addOn b port → y ≡ addOn b port → x ≡ y
 add-once b port x y p q = p ∙ sym q
 
-pub remove-once : (b : List ℕ) (port : ℕ) (x y : Left) → x ≡ removeOn b port → y ≡ removeOn b port → x ≡ y
+pub remove-once : (b : List ℕ) (port : ℕ) (x y : StateLeft) → x ≡ removeOn b port → y ≡ removeOn b port → x ≡ y
 remove-once b port x y p q = p ∙ sym q
 
-pub key-once : (b key : List ℕ) (x y : Left) → x ≡ keyOn b key → y ≡ keyOn b key → x ≡ y
+pub key-once : (b key : List ℕ) (x y : StateLeft) → x ≡ keyOn b key → y ≡ keyOn b key → x ≡ y
 key-once b key x y p q = p ∙ sym q
 
 pub frame-once
-    : (b f : List ℕ) (delay : ℕ) (counts : List ℕ) (lent : Lent) (x y : FrameLeft) → x ≡ frameOn b f delay counts lent → y ≡ frameOn b f delay counts lent
+    : (b : List ℕ) (a : Arrival) (counts : List ℕ) (lent : Lent) (x y : BuffersLeft) → x ≡ frameOn b a counts lent → y ≡ frameOn b a counts lent
     → x ≡ y
-frame-once b f delay counts lent x y p q = p ∙ sym q
+frame-once b a counts lent x y p q = p ∙ sym q
 
 pub place-once : (b f : List ℕ) (k : ℕ) (place : List ℕ) (x y : PlaceLeft) → x ≡ placeOn b f k place → y ≡ placeOn b f k place → x ≡ y
 place-once b f k place x y p q = p ∙ sym q

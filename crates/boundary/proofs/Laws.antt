@@ -1,66 +1,65 @@
 -- A state that is read, and what each call then leaves, a case each.
 -- Assumes nothing.
-use mathlib.Core.Path.{_≡_, refl, sym, ap, _∙_}
+use mathlib.Core.Path.{_≡_, sym, ap, _∙_}
 use mathlib.Core.List.{List, [], _∷_, _++_, append-nil}
 use Prim.Native.Nat.{ℕ}
 use native.Mathlib.Omega.{arith}
 use lib.ListN.{length, take, drop, drop-of-length-le}
 use lib.Seq.{take-length}
-use Rattle.framing.specs.Reads.{Found, fields, unreadable, short}
-use Rattle.framing.specs.Writes as writes
-use Rattle.framing.specs.Writes.{number}
-use Rattle.framing.specs.declared.octets.Written as framed
+use Rattle.xgem.specs.Reads.{Found, fields, unreadable, short}
+use Rattle.xgem.specs.Writes as writes
+use Rattle.xgem.specs.Writes.{number}
+use Rattle.xgem.specs.declared.words.Written as framed
 use Rattle.station.specs.declared.Station.{Station}
-use Rattle.station.specs.declared.answers.Answer.{Answer}
-use Rattle.station.specs.declared.answers.Answer.the-variants.{Done, StateOutOfRange, BufferTooShort}
+use Rattle.station.specs.declared.answers.Answer.the-variants.{Done}
 use Rattle.station.specs.Answers.{answerNumber}
-use Rattle.host.specs.declared.Outcome.{Outcome}
-use Rattle.arrival.specs.declared.Outcome as arrived
-use Rattle.engine.specs.declared.alone.StretchPlace.{StretchPlace}
-use Rattle.arrival.specs.Lengths.{Lent}
-use Rattle.arrival.specs.Frame as engine
-use Rattle.arrival.specs.Frame.{frameLeft}
+use Rattle.station.specs.declared.answers.Outcome.{Outcome}
+use Rattle.frame.specs.declared.Counts.{Counts}
+use Rattle.frame.specs.declared.FrameOutcome.{FrameOutcome}
+use Rattle.engine.specs.declared.stretching.StretchPlace.{StretchPlace}
+use Rattle.frame.specs.Given.{Arrival, Lent}
+use Rattle.frame.specs.Frame.{FrameLeft, leaving, noCounts, frameLeft}
 use Rattle.engine.specs.Stretch.{stretchPlace}
 use Rattle.layout.specs.declared.StateRead.{StateRead}
-use Rattle.layout.specs.declared.Standing.{Standing}
-use Rattle.layout.specs.declared.Standing.the-variants.{Held, Unreadable, Short}
+use Rattle.layout.specs.declared.Contents.{Contents}
+use Rattle.layout.specs.declared.Contents.the-variants.{Held, Unreadable, Short}
 use Rattle.layout.specs.Layout.{readOf, found, decoded, stored}
-use Rattle.boundary.specs.Calls.{Left, by, refused}
-use Rattle.boundary.specs.Frames.{FrameLeft, PlaceLeft, counted, afterFrame, refusedFrame, frameBy, placed, placeBy}
+use Rattle.boundary.specs.Calls.{StateLeft, by}
+use Rattle.boundary.specs.Frames.{BuffersLeft, PlaceLeft, counted, afterFrame, refusedFrame, frameBy, placed, placeBy}
 use Rattle.boundary.specs.Writers.{Target, written}
 
 module _ (b : List ℕ) (r : StateRead) (e : r ≡ readOf b) where
-  as-read : decoded b ≡ found (r .standing) (r .station)
-  as-read = ap (λ (x : StateRead). found (x .standing) (x .station)) (sym e)
+  as-read : decoded b ≡ found (r .contents) (r .station)
+  as-read = ap (λ (x : StateRead). found (x .contents) (x .station)) (sym e)
 
-  pub is-held : r .standing ≡ Held → decoded b ≡ fields (r .station)
-  is-held h = as-read ∙ ap (λ (k : Standing). found k (r .station)) h
+  pub is-held : r .contents ≡ Held → decoded b ≡ fields (r .station)
+  is-held h = as-read ∙ ap (λ (k : Contents). found k (r .station)) h
 
-  pub is-unreadable : r .standing ≡ Unreadable → decoded b ≡ unreadable
-  is-unreadable h = as-read ∙ ap (λ (k : Standing). found k (r .station)) h
+  pub is-unreadable : r .contents ≡ Unreadable → decoded b ≡ unreadable
+  is-unreadable h = as-read ∙ ap (λ (k : Contents). found k (r .station)) h
 
-  pub is-short : r .standing ≡ Short → decoded b ≡ short
-  is-short h = as-read ∙ ap (λ (k : Standing). found k (r .station)) h
+  pub is-short : r .contents ≡ Short → decoded b ≡ short
+  is-short h = as-read ∙ ap (λ (k : Contents). found k (r .station)) h
 
 -- ---- the calls on a state alone
 
 module _ (b : List ℕ) (call : Station → Outcome) where
   pub call-held
       : (s : Station) (o : Outcome) (n : ℕ) (x : List ℕ) → decoded b ≡ fields s → o ≡ call s → n ≡ answerNumber (o .answer) → x ≡ stored (o .station) b
-      → _≡_ {A = Left} (record { answer = n; state = x }) (by (decoded b) call b)
+      → _≡_ {A = StateLeft} (record { answer = n; state = x }) (by (decoded b) call b)
   call-held s o n x ed eo en ex =
-      let made : _≡_ {A = Left} (record { answer = n; state = x }) (record { answer = answerNumber (o .answer); state = stored (o .station) b }) = λ j. record { answer = en j; state = ex j } in
+      let made : _≡_ {A = StateLeft} (record { answer = n; state = x }) (record { answer = answerNumber (o .answer); state = stored (o .station) b }) = λ j. record { answer = en j; state = ex j } in
       made
       ∙ ap (λ (z : Outcome). record { answer = answerNumber (z .answer); state = stored (z .station) b }) eo
       ∙ sym (ap (λ (f : Found Station). by f call b) ed)
 
-  pub call-unreadable : decoded b ≡ unreadable → _≡_ {A = Left} (record { answer = 1; state = b }) (by (decoded b) call b)
+  pub call-unreadable : decoded b ≡ unreadable → _≡_ {A = StateLeft} (record { answer = 1; state = b }) (by (decoded b) call b)
   call-unreadable ed = sym (ap (λ (f : Found Station). by f call b) ed)
 
-  pub call-short : decoded b ≡ short → _≡_ {A = Left} (record { answer = 3; state = b }) (by (decoded b) call b)
+  pub call-short : decoded b ≡ short → _≡_ {A = StateLeft} (record { answer = 3; state = b }) (by (decoded b) call b)
   call-short ed = sym (ap (λ (f : Found Station). by f call b) ed)
 
-pub powered : (b x : List ℕ) (s t : Station) → x ≡ stored s b → s ≡ t → _≡_ {A = Left} (record { answer = 0; state = x }) (record { answer = answerNumber Done; state = stored t b })
+pub powered : (b x : List ℕ) (s t : Station) → x ≡ stored s b → s ≡ t → _≡_ {A = StateLeft} (record { answer = 0; state = x }) (record { answer = answerNumber Done; state = stored t b })
 powered b x s t e f = ap (λ (l : List ℕ). record { answer = 0; state = l }) (e ∙ ap (λ (z : Station). stored z b) f)
 
 pub copied : (src dst x : List ℕ) → length dst ≡ length src → x ≡ take (length src) src ++ drop (length src) dst → x ≡ src
@@ -70,29 +69,30 @@ copied src dst x e f =
 
 -- ---- the frame call and the stretch
 
-module _ (b f : List ℕ) (delay : ℕ) (counts : List ℕ) (lent : Lent) where
+module _ (b : List ℕ) (a : Arrival) (counts : List ℕ) (lent : Lent) where
   pub frame-held
-      : (s : Station) (o : arrived.Outcome) (left : Lent) (n : ℕ) (x k : List ℕ) → decoded b ≡ fields s
-      → _≡_ {A = engine.Left} (record { outcome = o; lent = left }) (frameLeft s f delay lent) → n ≡ answerNumber (o .answer) → x ≡ stored (o .station) b
-      → k ≡ counted counts (o .records) (o .replies) (o .bytes)
-      → _≡_ {A = FrameLeft} (record { answer = n; state = x; counts = k; lent = left }) (frameBy (decoded b) b f delay counts lent)
-  frame-held s o left n x k ed ef en ex ek =
-      let made : _≡_ {A = FrameLeft} (record { answer = n; state = x; counts = k; lent = left }) (afterFrame (record { outcome = o; lent = left }) b counts) = λ j. record { answer = en j; state = ex j; counts = ek j; lent = left } in
-      made ∙ ap (λ (l : engine.Left). afterFrame l b counts) ef ∙ sym (ap (λ (z : Found Station). frameBy z b f delay counts lent) ed)
+      : (s : Station) (r : FrameOutcome) (left : Lent) (n : ℕ) (x k : List ℕ) → decoded b ≡ fields s → leaving r left ≡ frameLeft s a lent
+      → n ≡ answerNumber (r .outcome .answer) → x ≡ stored (r .outcome .station) b → k ≡ counted counts (r .counts)
+      → _≡_ {A = BuffersLeft} (record { answer = n; state = x; counts = k; lent = left }) (frameBy (decoded b) b a counts lent)
+  frame-held s r left n x k ed ef en ex ek =
+      let made : _≡_ {A = BuffersLeft} (record { answer = n; state = x; counts = k; lent = left }) (afterFrame (leaving r left) b counts) = λ j. record { answer = en j; state = ex j; counts = ek j; lent = left } in
+      made ∙ ap (λ (l : FrameLeft). afterFrame l b counts) ef ∙ sym (ap (λ (z : Found Station). frameBy z b a counts lent) ed)
 
   pub frame-unreadable
-      : (k : List ℕ) → decoded b ≡ unreadable → k ≡ counted counts 0 0 0
-      → _≡_ {A = FrameLeft} (record { answer = 1; state = b; counts = k; lent = lent }) (frameBy (decoded b) b f delay counts lent)
-  frame-unreadable k ed ek =
-      let made : _≡_ {A = FrameLeft} (record { answer = 1; state = b; counts = k; lent = lent }) (refusedFrame 1 b counts lent) = λ j. record { answer = 1; state = b; counts = ek j; lent = lent } in
-      made ∙ sym (ap (λ (z : Found Station). frameBy z b f delay counts lent) ed)
+      : (k : List ℕ) (c : Counts) → decoded b ≡ unreadable → c ≡ noCounts → k ≡ counted counts c
+      → _≡_ {A = BuffersLeft} (record { answer = 1; state = b; counts = k; lent = lent }) (frameBy (decoded b) b a counts lent)
+  frame-unreadable k c ed ec ek =
+      let none : k ≡ counted counts noCounts = ek ∙ ap (counted counts) ec in
+      let made : _≡_ {A = BuffersLeft} (record { answer = 1; state = b; counts = k; lent = lent }) (refusedFrame 1 b counts lent) = λ j. record { answer = 1; state = b; counts = none j; lent = lent } in
+      made ∙ sym (ap (λ (z : Found Station). frameBy z b a counts lent) ed)
 
   pub frame-short
-      : (k : List ℕ) → decoded b ≡ short → k ≡ counted counts 0 0 0
-      → _≡_ {A = FrameLeft} (record { answer = 3; state = b; counts = k; lent = lent }) (frameBy (decoded b) b f delay counts lent)
-  frame-short k ed ek =
-      let made : _≡_ {A = FrameLeft} (record { answer = 3; state = b; counts = k; lent = lent }) (refusedFrame 3 b counts lent) = λ j. record { answer = 3; state = b; counts = ek j; lent = lent } in
-      made ∙ sym (ap (λ (z : Found Station). frameBy z b f delay counts lent) ed)
+      : (k : List ℕ) (c : Counts) → decoded b ≡ short → c ≡ noCounts → k ≡ counted counts c
+      → _≡_ {A = BuffersLeft} (record { answer = 3; state = b; counts = k; lent = lent }) (frameBy (decoded b) b a counts lent)
+  frame-short k c ed ec ek =
+      let none : k ≡ counted counts noCounts = ek ∙ ap (counted counts) ec in
+      let made : _≡_ {A = BuffersLeft} (record { answer = 3; state = b; counts = k; lent = lent }) (refusedFrame 3 b counts lent) = λ j. record { answer = 3; state = b; counts = none j; lent = lent } in
+      made ∙ sym (ap (λ (z : Found Station). frameBy z b a counts lent) ed)
 
 module _ (b f : List ℕ) (k : ℕ) (place : List ℕ) where
   pub place-held
@@ -118,7 +118,7 @@ module _ (b f : List ℕ) (k : ℕ) (place : List ℕ) where
 
 -- ---- the writers
 
-pub write-as : (l : writes.Left) (w : framed.Written) (x : List ℕ) (n : ℕ) → _≡_ {A = writes.Left} (record { answer = w; target = x }) l → n ≡ number w → _≡_ {A = Target} (record { answer = n; target = x }) (written l)
+pub write-as : (l : writes.WriteLeft) (w : framed.Written) (x : List ℕ) (n : ℕ) → _≡_ {A = writes.WriteLeft} (record { answer = w; target = x }) l → n ≡ number w → _≡_ {A = Target} (record { answer = n; target = x }) (written l)
 write-as l w x n e en =
     let made : _≡_ {A = Target} (record { answer = n; target = x }) (written (record { answer = w; target = x })) = λ j. record { answer = en j; target = x } in
     made ∙ ap written e

@@ -1,25 +1,24 @@
 -- A state in range keeps its counts in one octet each, and a call that leaves the station as it was leaves the buffer as it was.
 -- Assumes nothing.
-use mathlib.Core.Path.{_≡_, refl, sym, ap, _∙_}
-use mathlib.Core.Bool.{Bool, true, _&&_}
+use mathlib.Core.Path.{_≡_, ap, _∙_}
+use mathlib.Core.Bool.{true}
 use mathlib.Core.List.{List}
-use Prim.Native.Nat.{ℕ, _-_, _^_, _≤_, _<_}
+use Prim.Native.Nat.{ℕ, _-_, _^_, _<_}
 use native.Mathlib.Omega.{arith}
 use lib.Dec.{leb}
 use borrow.Author.Tests.{leb-true}
-use Rattle.framing.specs.Reads.{Found, fields}
+use Rattle.xgem.specs.Reads.{Found, fields}
 use Rattle.station.specs.declared.Station.{Station}
 use Rattle.link.specs.Limits.{addedAllocs, mostOwed}
 use Rattle.station.specs.Limits.{upstreamWords}
-use Rattle.station.specs.Answers.{answerNumber}
 use Rattle.link.specs.Link.{heldAllocs}
 use Rattle.ids.specs.Ids.{assignableAlloc, sameAlloc}
-use Rattle.ranges.specs.Ranges.{inRange, identityFits, allocsFit, portsFit, partialsFit, timerFits, proper}
-use Rattle.ranges.proofs.Tests.{both}
-use Rattle.host.specs.declared.Outcome.{Outcome}
+use Rattle.validity.specs.Ranges.{inRange, identityFits, allocsFit, portsFit, partialsFit, timerFits, proper}
+use Rattle.validity.proofs.Tests.{both}
+use Rattle.station.specs.declared.answers.Outcome.{Outcome}
 use Rattle.layout.specs.Layout.{decoded, stored}
 use Rattle.layout.proofs.RoundTrips.{read-stored}
-use Rattle.boundary.specs.Calls.{Left, by}
+use Rattle.boundary.specs.Calls.{by}
 
 module _ (s : Station) (h : inRange s ≡ true) where
   pub alloc-count : s .link .allocs .count < 256 ^ 1

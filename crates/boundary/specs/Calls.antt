@@ -1,52 +1,58 @@
 -- The calls that take and leave a state, over the octets of a lent buffer: each is the engine's call on the state that stands there.
 -- Assumes nothing.
 use Prim.Native.Nat.{ℕ}
-use mathlib.Core.Bool.{Bool, _&&_, cond}
+use mathlib.Core.Path.{_≡_}
+use mathlib.Core.Bool.{_&&_, cond}
 use mathlib.Core.List.{List}
 use lib.Dec.{leb}
 use lib.ListN.{length, take}
-use Rattle.ids.specs.declared.PortId.{PortId}
-use Rattle.framing.specs.Reads.{Found, fields, unreadable, short}
+use Rattle.xgem.specs.Reads.{Found, fields, unreadable, short}
 use Rattle.station.specs.declared.Station.{Station}
 use Rattle.station.specs.declared.answers.Answer.the-variants.{Done, StateOutOfRange, BufferTooShort}
 use Rattle.station.specs.Answers.{answerNumber}
+use Rattle.station.specs.Limits.{serialOctets, registrationOctets}
 use Rattle.station.specs.Station.{powerOn}
-use Rattle.host.specs.declared.Outcome.{Outcome}
+use Rattle.link.specs.Limits.{keyOctets}
+use Rattle.station.specs.declared.answers.Outcome.{Outcome}
 use Rattle.host.specs.Host.{afterAdd, afterRemove, afterKey}
-use Rattle.engine.specs.Times.{lostLeft}
+use Rattle.engine.specs.Lods.{lostLeft}
 use Rattle.layout.specs.Layout.{stateBytes, decoded, stored}
 
 -- the answer's number, and what the state's buffer then holds
-pub record Left : Type 0 where
+pub record StateLeft : Type 0 where
   pub answer : ℕ
   pub state : List ℕ
 
+-- the whole contract: of the answer's number and of the state's buffer at exit
+abbrev pub StateIs : ℕ → List ℕ → StateLeft → Type 0
+StateIs answer state left = record { answer = answer; state = state } ≡ left
+
 -- "nothing changed"
-abbrev pub refused : ℕ → List ℕ → Left
+abbrev pub refused : ℕ → List ℕ → StateLeft
 refused answer b = record { answer = answer; state = b }
 
 -- octets that are no state's are answered like a state out of range; a buffer that holds no state is too short
-abbrev pub by : Found Station → (Station → Outcome) → List ℕ → Left
+abbrev pub by : Found Station → (Station → Outcome) → List ℕ → StateLeft
 by (fields s) call b = record { answer = answerNumber (call s .answer); state = stored (call s .station) b }
 by unreadable call b = refused (answerNumber StateOutOfRange) b
 by short call b = refused (answerNumber BufferTooShort) b
 
-unfoldable pub lostOn : List ℕ → Left
+unfoldable pub lostOn : List ℕ → StateLeft
 lostOn b = by (decoded b) lostLeft b
 
-unfoldable pub addOn : List ℕ → ℕ → Left
+unfoldable pub addOn : List ℕ → ℕ → StateLeft
 addOn b port = by (decoded b) (λ (s : Station). afterAdd s (record { 0 = port })) b
 
-unfoldable pub removeOn : List ℕ → ℕ → Left
+unfoldable pub removeOn : List ℕ → ℕ → StateLeft
 removeOn b port = by (decoded b) (λ (s : Station). afterRemove s (record { 0 = port })) b
 
 -- a key has sixteen octets; one that is too short is a buffer too short, before the state is looked at
-unfoldable pub keyOn : List ℕ → List ℕ → Left
-keyOn b key = cond (leb 16 (length key)) (by (decoded b) (λ (s : Station). afterKey s (take 16 key)) b) (refused (answerNumber BufferTooShort) b)
+unfoldable pub keyOn : List ℕ → List ℕ → StateLeft
+keyOn b key = cond (leb keyOctets (length key)) (by (decoded b) (λ (s : Station). afterKey s (take keyOctets key)) b) (refused (answerNumber BufferTooShort) b)
 
 -- power-on has no refusal but that of a buffer too short: eight octets of serial number, thirty-six of Registration ID
-unfoldable pub powerOnIn : List ℕ → List ℕ → List ℕ → Left
+unfoldable pub powerOnIn : List ℕ → List ℕ → List ℕ → StateLeft
 powerOnIn b serial registration =
-    cond (leb stateBytes (length b) && (leb 8 (length serial) && leb 36 (length registration)))
-    (record { answer = answerNumber Done; state = stored (powerOn (take 8 serial) (take 36 registration)) b })
+    cond (leb stateBytes (length b) && (leb serialOctets (length serial) && leb registrationOctets (length registration)))
+    (record { answer = answerNumber Done; state = stored (powerOn (take serialOctets serial) (take registrationOctets registration)) b })
     (refused (answerNumber BufferTooShort) b)

@@ -1,56 +1,67 @@
 -- The frame call and the stretch, over the octets of a lent state.
 -- Assumes nothing.
 use Prim.Native.Nat.{ℕ}
-use mathlib.Core.Bool.{Bool, cond}
-use mathlib.Core.List.{List, [], _∷_, _++_}
+use mathlib.Core.Path.{_≡_}
+use mathlib.Core.Bool.{cond}
+use mathlib.Core.List.{List, [], _∷_}
 use lib.Dec.{leb}
-use lib.ListN.{length, drop}
-use Rattle.framing.specs.Reads.{Found, fields, unreadable, short}
-use Rattle.framing.specs.Writes.{put}
+use lib.ListN.{length}
+use Rattle.xgem.specs.Reads.{Found, fields, unreadable, short}
+use Rattle.xgem.specs.Writes.{put}
 use Rattle.station.specs.declared.Station.{Station}
 use Rattle.station.specs.declared.answers.Answer.the-variants.{StateOutOfRange, BufferTooShort}
 use Rattle.station.specs.Answers.{answerNumber}
-use Rattle.arrival.specs.declared.Outcome.{Outcome}
-use Rattle.engine.specs.declared.alone.StretchPlace.{StretchPlace}
-use Rattle.arrival.specs.Lengths.{Lent}
-use Rattle.arrival.specs.Frame as engine
-use Rattle.arrival.specs.Frame.{frameLeft}
+use Rattle.frame.specs.declared.Counts.{Counts}
+use Rattle.frame.specs.Given.{Arrival, Lent}
+use Rattle.frame.specs.Frame.{FrameLeft, noCounts, frameLeft}
 use Rattle.engine.specs.Stretch.{stretchPlace}
 use Rattle.layout.specs.Layout.{decoded, stored}
 
--- the answer's number, and what every lent buffer then holds: the counts are records, replies and bytes of deliveries
-pub record FrameLeft : Type 0 where
+-- numbers in the buffer of the counts, and in that of the place
+abbrev pub countNumbers : ℕ
+countNumbers = 3
+
+abbrev pub placeNumbers : ℕ
+placeNumbers = 2
+
+-- the answer's number, and what every lent buffer then holds
+pub record BuffersLeft : Type 0 where
   pub answer : ℕ
   pub state : List ℕ
   pub counts : List ℕ
   pub lent : Lent
 
-abbrev pub counted : List ℕ → ℕ → ℕ → ℕ → List ℕ
-counted counts records replies bytes = put counts (records ∷ (replies ∷ (bytes ∷ [])))
+-- records, replies and bytes of deliveries
+abbrev pub counted : List ℕ → Counts → List ℕ
+counted counts c = put counts (c .records ∷ (c .replies ∷ (c .bytes ∷ [])))
 
-abbrev pub afterFrame : engine.Left → List ℕ → List ℕ → FrameLeft
+abbrev pub afterFrame : FrameLeft → List ℕ → List ℕ → BuffersLeft
 afterFrame l b counts =
     record {
       answer = answerNumber (l .outcome .answer);
       state = stored (l .outcome .station) b;
-      counts = counted counts (l .outcome .records) (l .outcome .replies) (l .outcome .bytes);
+      counts = counted counts (l .counts);
       lent = l .lent;
     }
 
 -- "After 1 to 5 the three counts are 0"
-abbrev pub refusedFrame : ℕ → List ℕ → List ℕ → Lent → FrameLeft
-refusedFrame answer b counts lent = record { answer = answer; state = b; counts = counted counts 0 0 0; lent = lent }
+abbrev pub refusedFrame : ℕ → List ℕ → List ℕ → Lent → BuffersLeft
+refusedFrame answer b counts lent = record { answer = answer; state = b; counts = counted counts noCounts; lent = lent }
 
-abbrev pub frameBy : Found Station → List ℕ → List ℕ → ℕ → List ℕ → Lent → FrameLeft
-frameBy (fields s) b f delay counts lent = afterFrame (frameLeft s f delay lent) b counts
-frameBy unreadable b f delay counts lent = refusedFrame (answerNumber StateOutOfRange) b counts lent
-frameBy short b f delay counts lent = refusedFrame (answerNumber BufferTooShort) b counts lent
+abbrev pub frameBy : Found Station → List ℕ → Arrival → List ℕ → Lent → BuffersLeft
+frameBy (fields s) b a counts lent = afterFrame (frameLeft s a lent) b counts
+frameBy unreadable b a counts lent = refusedFrame (answerNumber StateOutOfRange) b counts lent
+frameBy short b a counts lent = refusedFrame (answerNumber BufferTooShort) b counts lent
 
--- without room for three counts nothing is changed
-unfoldable pub frameOn : List ℕ → List ℕ → ℕ → List ℕ → Lent → FrameLeft
-frameOn b f delay counts lent =
-    cond (leb 3 (length counts)) (frameBy (decoded b) b f delay counts lent)
+-- without room for the counts nothing is changed
+unfoldable pub frameOn : List ℕ → Arrival → List ℕ → Lent → BuffersLeft
+frameOn b a counts lent =
+    cond (leb countNumbers (length counts)) (frameBy (decoded b) b a counts lent)
     (record { answer = answerNumber BufferTooShort; state = b; counts = counts; lent = lent })
+
+-- the whole contract: of the answer's number and of the buffers at exit
+abbrev pub BuffersAre : ℕ → List ℕ → List ℕ → Lent → BuffersLeft → Type 0
+BuffersAre answer state counts lent left = record { answer = answer; state = state; counts = counts; lent = lent } ≡ left
 
 -- the stretch as its offset in the frame and its length
 pub record PlaceLeft : Type 0 where
@@ -67,4 +78,7 @@ placeBy short f k place = placed (answerNumber BufferTooShort) place 0 0
 
 unfoldable pub placeOn : List ℕ → List ℕ → ℕ → List ℕ → PlaceLeft
 placeOn b f k place =
-    cond (leb 2 (length place)) (placeBy (decoded b) f k place) (record { answer = answerNumber BufferTooShort; place = place })
+    cond (leb placeNumbers (length place)) (placeBy (decoded b) f k place) (record { answer = answerNumber BufferTooShort; place = place })
+
+abbrev pub PlaceIs : ℕ → List ℕ → PlaceLeft → Type 0
+PlaceIs answer place left = record { answer = answer; place = place } ≡ left

@@ -4,8 +4,8 @@ use Prim.Native.Nat.{ℕ}
 use mathlib.Core.Bool.{Bool, _&&_, cond}
 use mathlib.Core.List.{List}
 use lib.Dec.{eqb, ltb}
-use Rattle.framing.specs.Writes as writes
-use Rattle.framing.specs.Writes.{number, writeXgemFrame}
+use Rattle.xgem.specs.Writes as writes
+use Rattle.xgem.specs.Writes.{number, writeXgemFrame}
 use Rattle.xgtc.specs.Writes.{writeHlend, writeAllocation}
 
 -- the answer's number, and what the target then holds
@@ -13,7 +13,7 @@ pub record Target : Type 0 where
   pub answer : ℕ
   pub target : List ℕ
 
-abbrev pub written : writes.Left → Target
+abbrev pub written : writes.WriteLeft → Target
 written l = record { answer = number (l .answer); target = l .target }
 
 abbrev pub hlendIn : ℕ → ℕ → List ℕ → Target

@@ -3,10 +3,12 @@ ghost use mathlib.Core.Path.{_≡_};
 ghost use mathlib.Core.List.{[], _∷_};
 ghost use Prim.Native.Nat.{_≤_};
 ghost use lib.ListN.{length};
-ghost use Rattle.framing.specs.Writes.{put};
-ghost use Rattle.boundary.specs.Frames.{FrameLeft, PlaceLeft, counted, frameOn, placeOn};
+ghost use Rattle.xgem.specs.Writes.{put};
+ghost use Rattle.frame.specs.Given.{arriving, lending};
+ghost use Rattle.boundary.specs.Frames.{BuffersAre, PlaceIs, countNumbers, placeNumbers, counted, frameOn, placeOn};
 use super::states;
-use layout::Standing;
+use frame::Counts;
+use layout::Contents;
 
 const STATE_OUT_OF_RANGE: u8 = 1;
 
@@ -16,17 +18,17 @@ const COUNTS: usize = 3;
 
 const PLACE: usize = 2;
 
-fn put_counts(counts: &mut [usize], records: usize, replies: usize, bytes: usize)
-    requires { ⌜ 3 ≤ length (now counts) ⌝ }
-    ensures { λ _. ⌜ now (counts .exit) ≡ counted (now (counts .entry)) records replies bytes ⌝ }
+fn put_counts(counts: &mut [usize], c: Counts)
+    requires { ⌜ countNumbers ≤ length (now counts) ⌝ }
+    ensures { λ _. ⌜ now (counts .exit) ≡ counted (now (counts .entry)) c ⌝ }
 {
-    counts[0] = records;
-    counts[1] = replies;
-    counts[2] = bytes;
+    counts[0] = c.records;
+    counts[1] = c.replies;
+    counts[2] = c.bytes;
 }
 
 fn put_place(place: &mut [usize], at: usize, bytes: usize)
-    requires { ⌜ 2 ≤ length (now place) ⌝ }
+    requires { ⌜ placeNumbers ≤ length (now place) ⌝ }
     ensures { λ _. ⌜ now (place .exit) ≡ put (now (place .entry)) (at ∷ (bytes ∷ [])) ⌝ }
 {
     place[0] = at;
@@ -39,34 +41,36 @@ pub extern "C" fn lingbarrow_frame(
     state: &mut [u8],
     memory: &mut [u8],
     frame: &[u8],
-    delay: u32,
+    random_delay: u32,
     plan: &mut [u16],
     replies: &mut [u8],
     deliveries: &mut [u8],
     counts: &mut [usize],
 ) -> u8
-    ensures { λ r. ⌜ _≡_ {A = FrameLeft} (record { answer = r; state = now (state .exit); counts = now (counts .exit); lent = record { memory = now (memory .exit); plan = now (plan .exit); replies = now (replies .exit); deliveries = now (deliveries .exit) } }) (frameOn (now (state .entry)) (now (frame .entry)) delay (now (counts .entry)) (record { memory = now (memory .entry); plan = now (plan .entry); replies = now (replies .entry); deliveries = now (deliveries .entry) })) ⌝ }
+    ensures { λ r. ⌜ BuffersAre r (now (state .exit)) (now (counts .exit)) (lending (now (memory .exit)) (now (plan .exit)) (now (replies .exit)) (now (deliveries .exit))) (frameOn (now (state .entry)) (arriving (now (frame .entry)) «random_delay») (now (counts .entry)) (lending (now (memory .entry)) (now (plan .entry)) (now (replies .entry)) (now (deliveries .entry)))) ⌝ }
 {
     if counts.len() < COUNTS {
         return BUFFER_TOO_SHORT;
     }
     let read = layout::read_state(state);
-    let standing = read.standing;
+    let contents = read.contents;
     let s = read.station;
-    match standing {
-        Standing::Held => {
-            let o = engine::frame(s, memory, frame, delay, plan, replies, deliveries);
-            let answer = o.answer;
-            let next = o.station;
-            put_counts(counts, o.records, o.replies, o.bytes);
+    match contents {
+        Contents::Held => {
+            let r = engine::frame(s, memory, frame, random_delay, plan, replies, deliveries);
+            let written = r.counts;
+            put_counts(counts, written);
+            let outcome = r.outcome;
+            let answer = outcome.answer;
+            let next = outcome.station;
             states::put_back(answer, next, state)
         }
-        Standing::Unreadable => {
-            put_counts(counts, 0, 0, 0);
+        Contents::Unreadable => {
+            put_counts(counts, Counts::none());
             STATE_OUT_OF_RANGE
         }
-        Standing::Short => {
-            put_counts(counts, 0, 0, 0);
+        Contents::Short => {
+            put_counts(counts, Counts::none());
             BUFFER_TOO_SHORT
         }
     }
@@ -80,26 +84,26 @@ pub extern "C" fn lingbarrow_stretch(
     k: usize,
     place: &mut [usize],
 ) -> u8
-    ensures { λ r. ⌜ _≡_ {A = PlaceLeft} (record { answer = r; place = now (place .exit) }) (placeOn (now (state .entry)) (now (frame .entry)) k (now (place .entry))) ⌝ }
+    ensures { λ r. ⌜ PlaceIs r (now (place .exit)) (placeOn (now (state .entry)) (now (frame .entry)) k (now (place .entry))) ⌝ }
 {
     if place.len() < PLACE {
         return BUFFER_TOO_SHORT;
     }
     let read = layout::read_state(state);
-    let standing = read.standing;
+    let contents = read.contents;
     let s = read.station;
-    match standing {
-        Standing::Held => {
+    match contents {
+        Contents::Held => {
             let p = engine::stretch_place(s, frame, k);
             let answer = p.answer;
             put_place(place, p.at, p.bytes);
             answer.number()
         }
-        Standing::Unreadable => {
+        Contents::Unreadable => {
             put_place(place, 0, 0);
             STATE_OUT_OF_RANGE
         }
-        Standing::Short => {
+        Contents::Short => {
             put_place(place, 0, 0);
             BUFFER_TOO_SHORT
         }

@@ -2,49 +2,48 @@
 ghost use mathlib.Core.Path.{_≡_};
 ghost use Prim.Native.Nat.{_≤_};
 ghost use lib.ListN.{length, take};
+ghost use Rattle.link.specs.Limits.{keyOctets};
+ghost use Rattle.station.specs.Limits.{serialOctets, registrationOctets};
 ghost use Rattle.station.specs.Answers.{answerNumber};
 ghost use Rattle.layout.specs.Layout.{stored};
-ghost use Rattle.boundary.specs.Calls.{Left, lostOn, addOn, removeOn, keyOn, powerOnIn};
-use host::Outcome;
+ghost use Rattle.boundary.specs.Calls.{StateIs, lostOn, addOn, removeOn, keyOn, powerOnIn};
 use ids::PortId;
-use layout::Standing;
+use layout::Contents;
+use link::KEY_OCTETS;
 use station::Station;
 use station::answers::Answer;
+use station::answers::Outcome;
+use station::limits::REGISTRATION_OCTETS;
+use station::limits::SERIAL_OCTETS;
 
 const STATE_OUT_OF_RANGE: u8 = 1;
 
 const BUFFER_TOO_SHORT: u8 = 3;
 
-const SERIAL_OCTETS: usize = 8;
-
-const KEY_OCTETS: usize = 16;
-
-const REGISTRATION_OCTETS: usize = 36;
-
-fn octets8(c: &[u8]) -> [u8; 8]
-    requires { ⌜ 8 ≤ length (now c) ⌝ }
-    ensures { λ r. ⌜ r ≡ take 8 (now (c .entry)) ⌝ }
+fn serial_of(c: &[u8]) -> [u8; SERIAL_OCTETS]
+    requires { ⌜ serialOctets ≤ length (now c) ⌝ }
+    ensures { λ r. ⌜ r ≡ take serialOctets (now (c .entry)) ⌝ }
 {
-    let mut l = [0u8; 8];
-    bytes::copy(&c[0..8], &mut l);
+    let mut l = [0u8; SERIAL_OCTETS];
+    bytes::copy(&c[0..SERIAL_OCTETS], &mut l);
     l
 }
 
-fn octets16(c: &[u8]) -> [u8; 16]
-    requires { ⌜ 16 ≤ length (now c) ⌝ }
-    ensures { λ r. ⌜ r ≡ take 16 (now (c .entry)) ⌝ }
+fn key_of(c: &[u8]) -> [u8; KEY_OCTETS]
+    requires { ⌜ keyOctets ≤ length (now c) ⌝ }
+    ensures { λ r. ⌜ r ≡ take keyOctets (now (c .entry)) ⌝ }
 {
-    let mut l = [0u8; 16];
-    bytes::copy(&c[0..16], &mut l);
+    let mut l = [0u8; KEY_OCTETS];
+    bytes::copy(&c[0..KEY_OCTETS], &mut l);
     l
 }
 
-fn octets36(c: &[u8]) -> [u8; 36]
-    requires { ⌜ 36 ≤ length (now c) ⌝ }
-    ensures { λ r. ⌜ r ≡ take 36 (now (c .entry)) ⌝ }
+fn registration_of(c: &[u8]) -> [u8; REGISTRATION_OCTETS]
+    requires { ⌜ registrationOctets ≤ length (now c) ⌝ }
+    ensures { λ r. ⌜ r ≡ take registrationOctets (now (c .entry)) ⌝ }
 {
-    let mut l = [0u8; 36];
-    bytes::copy(&c[0..36], &mut l);
+    let mut l = [0u8; REGISTRATION_OCTETS];
+    bytes::copy(&c[0..REGISTRATION_OCTETS], &mut l);
     l
 }
 
@@ -67,7 +66,7 @@ fn settle(o: Outcome, state: &mut [u8]) -> u8
 // A station that is powered on, in O1 with nothing held.
 #[no_mangle]
 pub extern "C" fn lingbarrow_power_on(state: &mut [u8], serial: &[u8], registration: &[u8]) -> u8
-    ensures { λ r. ⌜ _≡_ {A = Left} (record { answer = r; state = now (state .exit) }) (powerOnIn (now (state .entry)) (now (serial .entry)) (now (registration .entry))) ⌝ }
+    ensures { λ r. ⌜ StateIs r (now (state .exit)) (powerOnIn (now (state .entry)) (now (serial .entry)) (now (registration .entry))) ⌝ }
 {
     if state.len() < layout::STATE_BYTES {
         return BUFFER_TOO_SHORT;
@@ -78,7 +77,7 @@ pub extern "C" fn lingbarrow_power_on(state: &mut [u8], serial: &[u8], registrat
     if registration.len() < REGISTRATION_OCTETS {
         return BUFFER_TOO_SHORT;
     }
-    let s = Station::power_on(octets8(serial), octets36(registration));
+    let s = Station::power_on(serial_of(serial), registration_of(registration));
     layout::write_state(s, state);
     0
 }
@@ -86,62 +85,62 @@ pub extern "C" fn lingbarrow_power_on(state: &mut [u8], serial: &[u8], registrat
 // A frame time in which no frame arrived.
 #[no_mangle]
 pub extern "C" fn lingbarrow_lost(state: &mut [u8]) -> u8
-    ensures { λ r. ⌜ _≡_ {A = Left} (record { answer = r; state = now (state .exit) }) (lostOn (now (state .entry))) ⌝ }
+    ensures { λ r. ⌜ StateIs r (now (state .exit)) (lostOn (now (state .entry))) ⌝ }
 {
     let read = layout::read_state(state);
-    let standing = read.standing;
+    let contents = read.contents;
     let s = read.station;
-    match standing {
-        Standing::Held => settle(engine::lost(s), state),
-        Standing::Unreadable => STATE_OUT_OF_RANGE,
-        Standing::Short => BUFFER_TOO_SHORT,
+    match contents {
+        Contents::Held => settle(engine::lost(s), state),
+        Contents::Unreadable => STATE_OUT_OF_RANGE,
+        Contents::Short => BUFFER_TOO_SHORT,
     }
 }
 
 #[no_mangle]
 pub extern "C" fn lingbarrow_add_port(state: &mut [u8], port: u16) -> u8
-    ensures { λ r. ⌜ _≡_ {A = Left} (record { answer = r; state = now (state .exit) }) (addOn (now (state .entry)) port) ⌝ }
+    ensures { λ r. ⌜ StateIs r (now (state .exit)) (addOn (now (state .entry)) port) ⌝ }
 {
     let read = layout::read_state(state);
-    let standing = read.standing;
+    let contents = read.contents;
     let s = read.station;
     let id = PortId(port);
-    match standing {
-        Standing::Held => settle(host::add_port(s, id), state),
-        Standing::Unreadable => STATE_OUT_OF_RANGE,
-        Standing::Short => BUFFER_TOO_SHORT,
+    match contents {
+        Contents::Held => settle(host::add_port(s, id), state),
+        Contents::Unreadable => STATE_OUT_OF_RANGE,
+        Contents::Short => BUFFER_TOO_SHORT,
     }
 }
 
 #[no_mangle]
 pub extern "C" fn lingbarrow_remove_port(state: &mut [u8], port: u16) -> u8
-    ensures { λ r. ⌜ _≡_ {A = Left} (record { answer = r; state = now (state .exit) }) (removeOn (now (state .entry)) port) ⌝ }
+    ensures { λ r. ⌜ StateIs r (now (state .exit)) (removeOn (now (state .entry)) port) ⌝ }
 {
     let read = layout::read_state(state);
-    let standing = read.standing;
+    let contents = read.contents;
     let s = read.station;
     let id = PortId(port);
-    match standing {
-        Standing::Held => settle(host::remove_port(s, id), state),
-        Standing::Unreadable => STATE_OUT_OF_RANGE,
-        Standing::Short => BUFFER_TOO_SHORT,
+    match contents {
+        Contents::Held => settle(host::remove_port(s, id), state),
+        Contents::Unreadable => STATE_OUT_OF_RANGE,
+        Contents::Short => BUFFER_TOO_SHORT,
     }
 }
 
 #[no_mangle]
 pub extern "C" fn lingbarrow_give_key(state: &mut [u8], key: &[u8]) -> u8
-    ensures { λ r. ⌜ _≡_ {A = Left} (record { answer = r; state = now (state .exit) }) (keyOn (now (state .entry)) (now (key .entry))) ⌝ }
+    ensures { λ r. ⌜ StateIs r (now (state .exit)) (keyOn (now (state .entry)) (now (key .entry))) ⌝ }
 {
     if key.len() < KEY_OCTETS {
         return BUFFER_TOO_SHORT;
     }
-    let octets = octets16(key);
+    let octets = key_of(key);
     let read = layout::read_state(state);
-    let standing = read.standing;
+    let contents = read.contents;
     let s = read.station;
-    match standing {
-        Standing::Held => settle(host::give_key(s, octets), state),
-        Standing::Unreadable => STATE_OUT_OF_RANGE,
-        Standing::Short => BUFFER_TOO_SHORT,
+    match contents {
+        Contents::Held => settle(host::give_key(s, octets), state),
+        Contents::Unreadable => STATE_OUT_OF_RANGE,
+        Contents::Short => BUFFER_TOO_SHORT,
     }
 }

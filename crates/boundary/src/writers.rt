@@ -1,11 +1,11 @@
 // The writers of HLend, allocation structures and XGEM frames.
 ghost use mathlib.Core.Path.{_≡_};
-ghost use Rattle.framing.specs.Writes.{number};
+ghost use Rattle.xgem.specs.Writes.{number};
 ghost use Rattle.boundary.specs.Writers.{Target, hlendIn, allocationIn, xgemFrameIn};
-use framing::Written;
-use framing::xgem::XgemHeader;
 use ids::AllocId;
 use ids::PortId;
+use xgem::Written;
+use xgem::XgemHeader;
 use xgtc::allocation::Allocation;
 use xgtc::hlend::Hlend;
 
@@ -88,5 +88,5 @@ pub extern "C" fn lingbarrow_write_xgem_frame(
         options: options,
         last: last == 1,
     };
-    written_number(framing::xgem::write_xgem_frame(x, sdu, target))
+    written_number(xgem::write_xgem_frame(x, sdu, target))
 }

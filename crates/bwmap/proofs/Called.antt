@@ -1,6 +1,6 @@
 -- The entries that are called planned are exactly those of the plan, in map order.
 -- Assumes nothing.
-use Prim.Native.Nat.{ℕ, zero, suc, _+_, _-_, _≤_, _<_}
+use Prim.Native.Nat.{ℕ, zero, suc, _+_, _-_}
 use mathlib.Core.Path.{_≡_, _∙_, refl, sym, ap}
 use mathlib.Core.Bool.{Bool, true, false, cond}
 use mathlib.Core.List.{List, [], _∷_, _++_}
@@ -8,7 +8,7 @@ use native.Mathlib.Omega.{arith}
 use lib.Dec.{ltb}
 use borrow.Author.Tests.{ltb-true, ltb-false}
 use Rattle.xgtc.specs.declared.allocation.Allocation.{Allocation}
-use Rattle.framing.specs.Reads.{Found, fields}
+use Rattle.xgem.specs.Reads.{Found, fields}
 use Rattle.entries.specs.declared.Own.{Own}
 use Rattle.entries.specs.declared.Verdict.{Verdict}
 use Rattle.entries.specs.declared.Verdict.the-variants.{ContinuingNothing}
@@ -17,7 +17,8 @@ use Rattle.entries.specs.declared.Standing.the-variants.{Apart, Head, More}
 use Rattle.entries.specs.Standings.{standing, isPlanned}
 use Rattle.entries.proofs.Facts.{ours-is, apart-unplanned}
 use Rattle.series.specs.Limits.{entriesABurst}
-use Rattle.series.specs.Series.{Series, entryAt, entryCount, standingsFrom, standings, run, seriesAt, seriesOf, endOf, verdictOf, planned, plannedOf}
+use Rattle.series.specs.declared.Around.{Around}
+use Rattle.series.specs.Series.{Series, entryAt, entryCount, standingsFrom, run, seriesAt, seriesOf, outset, beyond, verdictOf, planned, plannedOf}
 use Rattle.bwmap.specs.Verdicts.{roles, verdictsOf, verdicts, entriesFrom, entries, called, readable, entriesOf}
 
 -- what is left of the series that is open with k so far
@@ -25,8 +26,8 @@ abbrev left : ℕ → List Standing → List Allocation
 left zero l = []
 left (suc k) l = run (15 - k) l
 
-abbrev expected : ℕ → ℕ → ℕ → Verdict → List Standing → List Allocation
-expected e n k v l = cond (isPlanned v) (left k l) [] ++ entriesOf (planned e n (seriesOf l))
+abbrev expected : Around → ℕ → Verdict → List Standing → List Allocation
+expected around k v l = cond (isPlanned v) (left k l) [] ++ entriesOf (planned around (seriesOf l))
 
 left-apart : (k : ℕ) (v : Verdict) (l : List Standing) → left k (Apart v ∷ l) ≡ []
 left-apart zero v l = refl
@@ -51,56 +52,56 @@ none false l h = refl
 module _ (own : Own) (m : List ℕ) where
   go
       : (i j : ℕ)
-      → ((e n k : ℕ) (v : Verdict) → called (verdictsOf e n v (roles k (standingsFrom own m (suc i) j))) (entriesFrom m (suc i) j) ≡ readable (expected e n k v (standingsFrom own m (suc i) j)))
-      → (e n k : ℕ) (v : Verdict) (x : Standing) → standing own (entryAt m i) ≡ x
-      → called (verdictsOf e n v (roles k (x ∷ standingsFrom own m (suc i) j))) (entryAt m i ∷ entriesFrom m (suc i) j) ≡ readable (expected e n k v (x ∷ standingsFrom own m (suc i) j))
-  go i j ih e n k v (Apart z) h =
+      → ((around : Around) (k : ℕ) (v : Verdict) → called (verdictsOf around v (roles k (standingsFrom own m (suc i) j))) (entriesFrom m (suc i) j) ≡ readable (expected around k v (standingsFrom own m (suc i) j)))
+      → (around : Around) (k : ℕ) (v : Verdict) (x : Standing) → standing own (entryAt m i) ≡ x
+      → called (verdictsOf around v (roles k (x ∷ standingsFrom own m (suc i) j))) (entryAt m i ∷ entriesFrom m (suc i) j) ≡ readable (expected around k v (x ∷ standingsFrom own m (suc i) j))
+  go i j ih around k v (Apart z) h =
       rw (apart-unplanned own (entryAt m i) z h, none (isPlanned v) (left k (Apart z ∷ standingsFrom own m (suc i) j)) (left-apart k z (standingsFrom own m (suc i) j)))
-      (ih e n 0 v ∙ ap (λ (l : List Allocation). readable (l ++ entriesOf (planned e n (seriesOf (standingsFrom own m (suc i) j))))) (none (isPlanned v) [] refl))
-  go i j ih e n k v (Head a) h =
+      (ih around 0 v ∙ ap (λ (l : List Allocation). readable (l ++ entriesOf (planned around (seriesOf (standingsFrom own m (suc i) j))))) (none (isPlanned v) [] refl))
+  go i j ih around k v (Head a) h =
       rw (none (isPlanned v) (left k (Head a ∷ standingsFrom own m (suc i) j)) (left-head k a (standingsFrom own m (suc i) j)), ours-is own (entryAt m i) a false h .read)
-      (one (isPlanned (verdictOf e n (seriesAt a (standingsFrom own m (suc i) j)))) refl)
+      (one (isPlanned (verdictOf around (seriesAt a (standingsFrom own m (suc i) j)))) refl)
     where
       s : Series
       s = seriesAt a (standingsFrom own m (suc i) j)
 
       one
-          : (b : Bool) → isPlanned (verdictOf e n (seriesAt a (standingsFrom own m (suc i) j))) ≡ b
+          : (b : Bool) → isPlanned (verdictOf around (seriesAt a (standingsFrom own m (suc i) j))) ≡ b
           → cond b
-          (fields a ∷ called (cond b (verdictsOf (endOf (seriesAt a (standingsFrom own m (suc i) j))) (n + 1) (verdictOf e n (seriesAt a (standingsFrom own m (suc i) j))) (roles 1 (standingsFrom own m (suc i) j))) (verdictsOf e n (verdictOf e n (seriesAt a (standingsFrom own m (suc i) j))) (roles 1 (standingsFrom own m (suc i) j)))) (entriesFrom m (suc i) j))
-          (called (cond b (verdictsOf (endOf (seriesAt a (standingsFrom own m (suc i) j))) (n + 1) (verdictOf e n (seriesAt a (standingsFrom own m (suc i) j))) (roles 1 (standingsFrom own m (suc i) j))) (verdictsOf e n (verdictOf e n (seriesAt a (standingsFrom own m (suc i) j))) (roles 1 (standingsFrom own m (suc i) j)))) (entriesFrom m (suc i) j))
-          ≡ readable (entriesOf (cond b (seriesAt a (standingsFrom own m (suc i) j) ∷ planned (endOf (seriesAt a (standingsFrom own m (suc i) j))) (n + 1) (seriesOf (standingsFrom own m (suc i) j))) (planned e n (seriesOf (standingsFrom own m (suc i) j)))))
+          (fields a ∷ called (cond b (verdictsOf (beyond around (seriesAt a (standingsFrom own m (suc i) j))) (verdictOf around (seriesAt a (standingsFrom own m (suc i) j))) (roles 1 (standingsFrom own m (suc i) j))) (verdictsOf around (verdictOf around (seriesAt a (standingsFrom own m (suc i) j))) (roles 1 (standingsFrom own m (suc i) j)))) (entriesFrom m (suc i) j))
+          (called (cond b (verdictsOf (beyond around (seriesAt a (standingsFrom own m (suc i) j))) (verdictOf around (seriesAt a (standingsFrom own m (suc i) j))) (roles 1 (standingsFrom own m (suc i) j))) (verdictsOf around (verdictOf around (seriesAt a (standingsFrom own m (suc i) j))) (roles 1 (standingsFrom own m (suc i) j)))) (entriesFrom m (suc i) j))
+          ≡ readable (entriesOf (cond b (seriesAt a (standingsFrom own m (suc i) j) ∷ planned (beyond around (seriesAt a (standingsFrom own m (suc i) j))) (seriesOf (standingsFrom own m (suc i) j))) (planned around (seriesOf (standingsFrom own m (suc i) j)))))
       one true p =
           ap (λ (l : List (Found Allocation)). fields a ∷ l)
-          (ih (endOf (seriesAt a (standingsFrom own m (suc i) j))) (n + 1) 1 (verdictOf e n (seriesAt a (standingsFrom own m (suc i) j)))
-          ∙ ap (λ (b : Bool). readable (cond b (run 15 (standingsFrom own m (suc i) j)) [] ++ entriesOf (planned (endOf (seriesAt a (standingsFrom own m (suc i) j))) (n + 1) (seriesOf (standingsFrom own m (suc i) j))))) p)
+          (ih (beyond around (seriesAt a (standingsFrom own m (suc i) j))) 1 (verdictOf around (seriesAt a (standingsFrom own m (suc i) j)))
+          ∙ ap (λ (b : Bool). readable (cond b (run 15 (standingsFrom own m (suc i) j)) [] ++ entriesOf (planned (beyond around (seriesAt a (standingsFrom own m (suc i) j))) (seriesOf (standingsFrom own m (suc i) j))))) p)
       one false p =
-          ih e n 1 (verdictOf e n (seriesAt a (standingsFrom own m (suc i) j)))
-          ∙ ap (λ (b : Bool). readable (cond b (run 15 (standingsFrom own m (suc i) j)) [] ++ entriesOf (planned e n (seriesOf (standingsFrom own m (suc i) j))))) p
-  go i j ih e n zero v (More a) h = ih e n 0 v
-  go i j ih e n (suc k) v (More a) h = one (ltb (suc k) entriesABurst) refl
+          ih around 1 (verdictOf around (seriesAt a (standingsFrom own m (suc i) j)))
+          ∙ ap (λ (b : Bool). readable (cond b (run 15 (standingsFrom own m (suc i) j)) [] ++ entriesOf (planned around (seriesOf (standingsFrom own m (suc i) j))))) p
+  go i j ih around zero v (More a) h = ih around 0 v
+  go i j ih around (suc k) v (More a) h = one (ltb (suc k) entriesABurst) refl
     where
       one
           : (b : Bool) → ltb (suc k) entriesABurst ≡ b
-          → called (verdictsOf e n v (roles (suc k) (More a ∷ standingsFrom own m (suc i) j))) (entryAt m i ∷ entriesFrom m (suc i) j) ≡ readable (expected e n (suc k) v (More a ∷ standingsFrom own m (suc i) j))
+          → called (verdictsOf around v (roles (suc k) (More a ∷ standingsFrom own m (suc i) j))) (entryAt m i ∷ entriesFrom m (suc i) j) ≡ readable (expected around (suc k) v (More a ∷ standingsFrom own m (suc i) j))
       one true p =
           let d : 15 - k ≡ suc (15 - suc k) = omega (arith, ltb-true (suc k) entriesABurst p) in
           rw (p, d) (two (isPlanned v) refl)
         where
           two
               : (b : Bool) → isPlanned v ≡ b
-              → cond b (entryAt m i ∷ called (verdictsOf e n v (roles (suc (suc k)) (standingsFrom own m (suc i) j))) (entriesFrom m (suc i) j)) (called (verdictsOf e n v (roles (suc (suc k)) (standingsFrom own m (suc i) j))) (entriesFrom m (suc i) j))
-              ≡ readable (cond b (a ∷ run (15 - suc k) (standingsFrom own m (suc i) j)) [] ++ entriesOf (planned e n (seriesOf (standingsFrom own m (suc i) j))))
+              → cond b (entryAt m i ∷ called (verdictsOf around v (roles (suc (suc k)) (standingsFrom own m (suc i) j))) (entriesFrom m (suc i) j)) (called (verdictsOf around v (roles (suc (suc k)) (standingsFrom own m (suc i) j))) (entriesFrom m (suc i) j))
+              ≡ readable (cond b (a ∷ run (15 - suc k) (standingsFrom own m (suc i) j)) [] ++ entriesOf (planned around (seriesOf (standingsFrom own m (suc i) j))))
           two true q =
               rw (ours-is own (entryAt m i) a true h .read)
-              (ap (λ (l : List (Found Allocation)). fields a ∷ l) (ih e n (suc (suc k)) v ∙ ap (λ (b : Bool). readable (cond b (run (15 - suc k) (standingsFrom own m (suc i) j)) [] ++ entriesOf (planned e n (seriesOf (standingsFrom own m (suc i) j))))) q))
-          two false q = ih e n (suc (suc k)) v ∙ ap (λ (b : Bool). readable (cond b (run (15 - suc k) (standingsFrom own m (suc i) j)) [] ++ entriesOf (planned e n (seriesOf (standingsFrom own m (suc i) j))))) q
+              (ap (λ (l : List (Found Allocation)). fields a ∷ l) (ih around (suc (suc k)) v ∙ ap (λ (b : Bool). readable (cond b (run (15 - suc k) (standingsFrom own m (suc i) j)) [] ++ entriesOf (planned around (seriesOf (standingsFrom own m (suc i) j))))) q))
+          two false q = ih around (suc (suc k)) v ∙ ap (λ (b : Bool). readable (cond b (run (15 - suc k) (standingsFrom own m (suc i) j)) [] ++ entriesOf (planned around (seriesOf (standingsFrom own m (suc i) j))))) q
       one false p =
           let d : 15 - k ≡ 0 = omega (arith, ltb-false (suc k) entriesABurst p) in
-          rw (p, d) (ih e n 0 v ∙ ap (λ (l : List Allocation). readable (l ++ entriesOf (planned e n (seriesOf (standingsFrom own m (suc i) j))))) (none (isPlanned v) [] refl ∙ sym (none (isPlanned v) [] refl)))
+          rw (p, d) (ih around 0 v ∙ ap (λ (l : List Allocation). readable (l ++ entriesOf (planned around (seriesOf (standingsFrom own m (suc i) j))))) (none (isPlanned v) [] refl ∙ sym (none (isPlanned v) [] refl)))
 
-  called-from : (j i e n k : ℕ) (v : Verdict) → called (verdictsOf e n v (roles k (standingsFrom own m i j))) (entriesFrom m i j) ≡ readable (expected e n k v (standingsFrom own m i j))
-  called-from zero i e n k v = sym (ap (λ (l : List Allocation). readable (l ++ [])) (none (isPlanned v) (left k []) (empty k)))
+  called-from : (j i : ℕ) (around : Around) (k : ℕ) (v : Verdict) → called (verdictsOf around v (roles k (standingsFrom own m i j))) (entriesFrom m i j) ≡ readable (expected around k v (standingsFrom own m i j))
+  called-from zero i around k v = sym (ap (λ (l : List Allocation). readable (l ++ [])) (none (isPlanned v) (left k []) (empty k)))
     where
       empty : (k : ℕ) → left k [] ≡ []
       empty zero = refl
@@ -109,7 +110,7 @@ module _ (own : Own) (m : List ℕ) where
           nil : (j : ℕ) → run j [] ≡ []
           nil zero = refl
           nil (suc j) = refl
-  called-from (suc j) i e n k v = go i j (called-from j (suc i)) e n k v (standing own (entryAt m i)) refl
+  called-from (suc j) i around k v = go i j (called-from j (suc i)) around k v (standing own (entryAt m i)) refl
 
   pub called-planned : (carried : ℕ) → called (verdicts own m carried) (entries m) ≡ readable (entriesOf (plannedOf own m carried))
-  called-planned carried = called-from (entryCount m) 0 carried 0 0 ContinuingNothing
+  called-planned carried = called-from (entryCount m) 0 (outset carried) 0 ContinuingNothing

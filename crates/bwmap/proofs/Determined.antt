@@ -1,15 +1,15 @@
--- No second outcome: what the walk answers and leaves in the lent plan is fixed by what it is given.
+-- No second finished: what the walk answers and leaves in the lent plan is fixed by what it is given.
 -- Assumes nothing.
 use Prim.Native.Nat.{ℕ}
 use mathlib.Core.Path.{_≡_, _∙_, sym, ap}
 use mathlib.Core.List.{List}
 use Rattle.entries.specs.declared.Own.{Own}
-use Rattle.bwmap.specs.Plan.{Left, MapLeaves}
-use Rattle.bwmap.specs.declared.Answer.{Answer}
+use Rattle.bwmap.specs.Plan.{PlanLeft, MapLeaves}
+use Rattle.bwmap.specs.declared.Planning.{Planning}
 
 pub map-determined
-    : (own : Own) (m : List ℕ) (carried : ℕ) (plan : List ℕ) (a b : Answer) (x y : List ℕ) → MapLeaves own m carried plan a x → MapLeaves own m carried plan b y
+    : (own : Own) (m : List ℕ) (carried : ℕ) (plan : List ℕ) (a b : Planning) (x y : List ℕ) → MapLeaves own m carried plan a x → MapLeaves own m carried plan b y
     → (a ≡ b) × (x ≡ y)
 map-determined own m carried plan a b x y p q =
-    let e : _≡_ {A = Left} (record { answer = a; plan = x }) (record { answer = b; plan = y }) = p ∙ sym q in
-    (ap (λ (l : Left). l .answer) e, ap (λ (l : Left). l .plan) e)
+    let e : _≡_ {A = PlanLeft} (record { answer = a; plan = x }) (record { answer = b; plan = y }) = p ∙ sym q in
+    (ap (λ (l : PlanLeft). l .answer) e, ap (λ (l : PlanLeft). l .plan) e)

@@ -2,8 +2,8 @@
 -- planned once, in map order, or passed over for its first reason.
 -- Assumes nothing.
 use Prim.Native.Nat.{ℕ, zero, suc, _+_, _-_, _*_, _^_, _≤_, _<_, zero-le}
-use mathlib.Core.Path.{_≡_, _∙_, refl, sym, ap}
-use mathlib.Core.List.{List, [], _∷_, _++_}
+use mathlib.Core.Path.{_≡_, refl}
+use mathlib.Core.List.{List, [], _∷_}
 use mathlib.Core.Bool.{Bool, true, false, cond}
 use native.Mathlib.Omega.{arith}
 use native.Mathlib.Numerals.{add-one}
@@ -11,25 +11,26 @@ use lib.Dec.{leb, ltb}
 use lib.ListN.{length, drop, take}
 use borrow.Author.Tests.{ltb-true, ltb-false, leb-true, leb-false}
 use Rattle.hec.specs.Reads.{Reading, word, unreadable as unreadable-word, reading}
-use Rattle.framing.specs.Octets.{value}
+use Rattle.octets.specs.Octets.{value}
 use Rattle.xgtc.specs.Layouts.{allocationOf}
 use Rattle.xgtc.specs.declared.allocation.Allocation.{Allocation}
-use Rattle.framing.specs.Reads.{Found, fields, unreadable, short, taken}
+use Rattle.xgem.specs.Reads.{fields, short, taken}
 use Rattle.xgtc.specs.Reads.{readAllocation}
 use Rattle.station.specs.Limits.{upstreamWords}
 use Rattle.entries.specs.Limits.{structureOctets, lastStart}
 use Rattle.entries.specs.declared.Own.{Own}
 use Rattle.entries.specs.declared.Verdict.{Verdict}
-use Rattle.entries.specs.declared.Verdict.the-variants.{Planned, Unreadable, StartTimeUnfit, DbruWithoutRoom, Foreign, ContinuingNothing, Seventeenth, TooLong, Overlapping, AfterTheFourth, Silent}
+use Rattle.entries.specs.declared.Verdict.the-variants.{Planned, Unreadable, StartTimeUnfit, DbruWithoutRoom, Foreign, ContinuingNothing, Seventeenth, TooLong, Overlapping, AfterTheLast, Silent}
 use Rattle.entries.specs.declared.Standing.{Standing}
 use Rattle.entries.specs.declared.Standing.the-variants.{Apart, Head, More}
 use Rattle.entries.specs.Standings.{standing, isPlanned, Mine}
 use Rattle.entries.proofs.Facts.{ours-is, standsAs, head-start}
 use Rattle.series.specs.Limits.{wordsABurst, burstsAFrame, entriesABurst}
-use Rattle.series.specs.Series.{Series, entryAt, entryCount, standingsFrom, standings, run, seriesAt, seriesOf, burstWords, endOf, judged, verdictOf, planned, lastEnd, carriedOver, plannedOf}
-use Rattle.bwmap.specs.Plan.{entriesIn, records}
+use Rattle.series.specs.declared.Around.{Around}
+use Rattle.series.specs.Series.{Series, entryAt, entryCount, standingsFrom, standings, run, seriesOf, burstWords, endOf, outset, beyond, judged, verdictOf, planned, lastEnd, carriedOver, plannedOf}
+use Rattle.plan.specs.Plan.{entriesIn, records}
 use Rattle.bwmap.specs.Promises.{Follow, SeriesIn, Every, Because, Account}
-use Rattle.bwmap.specs.Promises.Account.{done, plans, too-long, overlapping, after-the-fourth}
+use Rattle.bwmap.specs.Promises.Account.{done, plans, too-long, overlapping, after-the-last}
 use Rattle.series.proofs.Runs.{run-length}
 use Rattle.series.proofs.Judged.{planned-facts}
 
@@ -97,11 +98,11 @@ module _ (own : Own) (m : List ℕ) where
           )
 
 -- what holds of every series holds of those that are planned
-every-planned : (P : Series → Type 0) (e n : ℕ) (l : List Series) → Every P l → Every P (planned e n l)
-every-planned P e n [] h = tt
-every-planned P e n (s ∷ l) h = go (isPlanned (verdictOf e n s)) (every-planned P (endOf s) (n + 1) l (h .1)) (every-planned P e n l (h .1))
+every-planned : (P : Series → Type 0) (around : Around) (l : List Series) → Every P l → Every P (planned around l)
+every-planned P around [] h = tt
+every-planned P around (s ∷ l) h = go (isPlanned (verdictOf around s)) (every-planned P (beyond around s) l (h .1)) (every-planned P around l (h .1))
   where
-    go : (b : Bool) → Every P (planned (endOf s) (n + 1) l) → Every P (planned e n l) → Every P (cond b (s ∷ planned (endOf s) (n + 1) l) (planned e n l))
+    go : (b : Bool) → Every P (planned (beyond around s) l) → Every P (planned around l) → Every P (cond b (s ∷ planned (beyond around s) l) (planned around l))
     go true x y = (h .0, x)
     go false x y = y
 
@@ -112,56 +113,56 @@ module _ (own : Own) (m : List ℕ) where
 
   -- each planned series is one of ours
   pub planned-ours : (carried : ℕ) → Every (SeriesIn own m) (plannedOf own m carried)
-  planned-ours carried = every-planned (SeriesIn own m) carried 0 (seriesOf (standings own m)) series-ours
+  planned-ours carried = every-planned (SeriesIn own m) (outset carried) (seriesOf (standings own m)) series-ours
 
 -- ---- why
 
 because-of
-    : (e n : ℕ) (s : Series) (a b d : Bool) → ltb wordsABurst (burstWords s) ≡ a → ltb (s .head .start) e ≡ b → leb burstsAFrame n ≡ d
-    → Because e n s (cond a TooLong (cond b Overlapping (cond d AfterTheFourth Planned)))
-because-of e n s true b d p q r = ltb-true wordsABurst (burstWords s) p
-because-of e n s false true d p q r = (ltb-false wordsABurst (burstWords s) p, ltb-true (s .head .start) e q)
-because-of e n s false false true p q r = (ltb-false wordsABurst (burstWords s) p, ltb-false (s .head .start) e q, leb-true burstsAFrame n r)
-because-of e n s false false false p q r = (ltb-false wordsABurst (burstWords s) p, ltb-false (s .head .start) e q, leb-false burstsAFrame n r)
+    : (around : Around) (s : Series) (a b d : Bool) → ltb wordsABurst (burstWords s) ≡ a → ltb (s .head .start) (around .end) ≡ b → leb burstsAFrame (around .bursts) ≡ d
+    → Because around s (cond a TooLong (cond b Overlapping (cond d AfterTheLast Planned)))
+because-of around s true b d p q r = ltb-true wordsABurst (burstWords s) p
+because-of around s false true d p q r = (ltb-false wordsABurst (burstWords s) p, ltb-true (s .head .start) (around .end) q)
+because-of around s false false true p q r = (ltb-false wordsABurst (burstWords s) p, ltb-false (s .head .start) (around .end) q, leb-true burstsAFrame (around .bursts) r)
+because-of around s false false false p q r = (ltb-false wordsABurst (burstWords s) p, ltb-false (s .head .start) (around .end) q, leb-false burstsAFrame (around .bursts) r)
 
 -- the verdict on a series is its first reason
-pub first-reason : (e n : ℕ) (s : Series) → Because e n s (verdictOf e n s)
+pub first-reason : (around : Around) (s : Series) → Because around s (verdictOf around s)
 unfolding judged
-first-reason e n s = because-of e n s (ltb wordsABurst (burstWords s)) (ltb (s .head .start) e) (leb burstsAFrame n) refl refl refl
+first-reason around s = because-of around s (ltb wordsABurst (burstWords s)) (ltb (s .head .start) (around .end)) (leb burstsAFrame (around .bursts)) refl refl refl
 
 account-one
-    : (e n : ℕ) (s : Series) (l : List Series) (v : Verdict) → Because e n s v → Account (endOf s) (n + 1) l (planned (endOf s) (n + 1) l) → Account e n l (planned e n l)
-    → Account e n (s ∷ l) (cond (isPlanned v) (s ∷ planned (endOf s) (n + 1) l) (planned e n l))
-account-one e n s l Planned h x y = plans h x
-account-one e n s l TooLong h x y = too-long h y
-account-one e n s l Overlapping h x y = overlapping h y
-account-one e n s l AfterTheFourth h x y = after-the-fourth h y
-account-one e n s l Unreadable h x y = absurd h
-account-one e n s l StartTimeUnfit h x y = absurd h
-account-one e n s l DbruWithoutRoom h x y = absurd h
-account-one e n s l Foreign h x y = absurd h
-account-one e n s l ContinuingNothing h x y = absurd h
-account-one e n s l Seventeenth h x y = absurd h
-account-one e n s l Silent h x y = absurd h
+    : (around : Around) (s : Series) (l : List Series) (v : Verdict) → Because around s v → Account (beyond around s) l (planned (beyond around s) l) → Account around l (planned around l)
+    → Account around (s ∷ l) (cond (isPlanned v) (s ∷ planned (beyond around s) l) (planned around l))
+account-one around s l Planned h x y = plans h x
+account-one around s l TooLong h x y = too-long h y
+account-one around s l Overlapping h x y = overlapping h y
+account-one around s l AfterTheLast h x y = after-the-last h y
+account-one around s l Unreadable h x y = absurd h
+account-one around s l StartTimeUnfit h x y = absurd h
+account-one around s l DbruWithoutRoom h x y = absurd h
+account-one around s l Foreign h x y = absurd h
+account-one around s l ContinuingNothing h x y = absurd h
+account-one around s l Seventeenth h x y = absurd h
+account-one around s l Silent h x y = absurd h
 
-pub account : (e n : ℕ) (l : List Series) → Account e n l (planned e n l)
-account e n [] = done
-account e n (s ∷ l) = account-one e n s l (verdictOf e n s) (first-reason e n s) (account (endOf s) (n + 1) l) (account e n l)
+pub account : (around : Around) (l : List Series) → Account around l (planned around l)
+account around [] = done
+account around (s ∷ l) = account-one around s l (verdictOf around s) (first-reason around s) (account (beyond around s) l) (account around l)
 
 -- every series of ours in a map is planned once, in map order, or passed over for its first reason
-pub every-series-accounted : (own : Own) (m : List ℕ) (carried : ℕ) → Account carried 0 (seriesOf (standings own m)) (plannedOf own m carried)
-every-series-accounted own m carried = account carried 0 (seriesOf (standings own m))
+pub every-series-accounted : (own : Own) (m : List ℕ) (carried : ℕ) → Account (outset carried) (seriesOf (standings own m)) (plannedOf own m carried)
+every-series-accounted own m carried = account (outset carried) (seriesOf (standings own m))
 
 -- ---- numbers
 
-planned-few : (e n : ℕ) (l : List Series) → n ≤ burstsAFrame → n + length (planned e n l) ≤ burstsAFrame
-planned-few e n [] h = omega arith
-planned-few e n (s ∷ l) h = go (isPlanned (verdictOf e n s)) refl (planned-few (endOf s) (n + 1) l) (planned-few e n l h)
+planned-few : (around : Around) (l : List Series) → around .bursts ≤ burstsAFrame → around .bursts + length (planned around l) ≤ burstsAFrame
+planned-few around [] h = omega arith
+planned-few around (s ∷ l) h = go (isPlanned (verdictOf around s)) refl (planned-few (beyond around s) l) (planned-few around l h)
   where
-    go : (b : Bool) → isPlanned (verdictOf e n s) ≡ b → (n + 1 ≤ burstsAFrame → n + 1 + length (planned (endOf s) (n + 1) l) ≤ burstsAFrame) → n + length (planned e n l) ≤ burstsAFrame
-        → n + length (cond b (s ∷ planned (endOf s) (n + 1) l) (planned e n l)) ≤ burstsAFrame
+    go : (b : Bool) → isPlanned (verdictOf around s) ≡ b → (around .bursts + 1 ≤ burstsAFrame → around .bursts + 1 + length (planned (beyond around s) l) ≤ burstsAFrame) → around .bursts + length (planned around l) ≤ burstsAFrame
+        → around .bursts + length (cond b (s ∷ planned (beyond around s) l) (planned around l)) ≤ burstsAFrame
     go true t x y =
-        let f = planned-facts e n (s .head .start) (burstWords s) t in
+        let f = planned-facts around (s .head .start) (burstWords s) t in
         let z = x (omega arith) in
         omega arith
     go false t x y = y
@@ -177,7 +178,7 @@ module _ (own : Own) (m : List ℕ) (carried : ℕ) where
   -- "4 bursts a frame"
   pub bursts-most : length (plannedOf own m carried) ≤ burstsAFrame
   bursts-most =
-      let a = planned-few carried 0 (seriesOf (standings own m)) zero-le in
+      let a = planned-few (outset carried) (seriesOf (standings own m)) zero-le in
       omega arith
 
   -- "at most 64 records of four"
@@ -188,14 +189,14 @@ module _ (own : Own) (m : List ℕ) (carried : ℕ) where
 
 -- ---- the words carried over
 
-end-low : (P : Series → Type 0) → ((s : Series) → P s → s .head .start ≤ lastStart) → (e n : ℕ) (l : List Series) → Every P l → e < 2 * upstreamWords → lastEnd e (planned e n l) < 2 * upstreamWords
-end-low P f e n [] h le = le
-end-low P f e n (s ∷ l) h le = go (isPlanned (verdictOf e n s)) refl (end-low P f (endOf s) (n + 1) l (h .1)) (end-low P f e n l (h .1) le)
+end-low : (P : Series → Type 0) → ((s : Series) → P s → s .head .start ≤ lastStart) → (around : Around) (l : List Series) → Every P l → around .end < 2 * upstreamWords → lastEnd (around .end) (planned around l) < 2 * upstreamWords
+end-low P f around [] h le = le
+end-low P f around (s ∷ l) h le = go (isPlanned (verdictOf around s)) refl (end-low P f (beyond around s) l (h .1)) (end-low P f around l (h .1) le)
   where
-    go : (b : Bool) → isPlanned (verdictOf e n s) ≡ b → (endOf s < 2 * upstreamWords → lastEnd (endOf s) (planned (endOf s) (n + 1) l) < 2 * upstreamWords)
-        → lastEnd e (planned e n l) < 2 * upstreamWords → lastEnd e (cond b (s ∷ planned (endOf s) (n + 1) l) (planned e n l)) < 2 * upstreamWords
+    go : (b : Bool) → isPlanned (verdictOf around s) ≡ b → (endOf s < 2 * upstreamWords → lastEnd (endOf s) (planned (beyond around s) l) < 2 * upstreamWords)
+        → lastEnd (around .end) (planned around l) < 2 * upstreamWords → lastEnd (around .end) (cond b (s ∷ planned (beyond around s) l) (planned around l)) < 2 * upstreamWords
     go true t x y =
-        let k = planned-facts e n (s .head .start) (burstWords s) t in
+        let k = planned-facts around (s .head .start) (burstWords s) t in
         let z = f s (h .0) in
         x (omega arith)
     go false t x y = y
@@ -203,5 +204,5 @@ end-low P f e n (s ∷ l) h le = go (isPlanned (verdictOf e n s)) refl (end-low 
 -- "carried words at most 9,719"
 pub carried-most : (own : Own) (m : List ℕ) (carried : ℕ) → carried < upstreamWords → carriedOver (lastEnd carried (plannedOf own m carried)) < upstreamWords
 carried-most own m carried h =
-    let e = end-low (SeriesIn own m) (λ s x. x .start) carried 0 (seriesOf (standings own m)) (series-ours own m) (omega arith) in
+    let e = end-low (SeriesIn own m) (λ s x. x .start) (outset carried) (seriesOf (standings own m)) (series-ours own m) (omega arith) in
     omega arith

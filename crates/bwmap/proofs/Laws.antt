@@ -1,10 +1,10 @@
 -- What the loops over the entries need, a turn at a time.
 -- Assumes nothing.
 use Prim.Native.Nat.{ℕ, suc, _+_, _-_, _*_, _≤_, _<_}
-use mathlib.Core.Path.{_≡_, sym}
+use mathlib.Core.Path.{_≡_, _∙_, sym}
 use mathlib.Core.List.{List, [], _∷_}
 use native.Mathlib.Omega.{arith}
-use native.Mathlib.Numerals.{add-one}
+use native.Mathlib.Numerals.{add-one, add-four}
 use native.Mathlib.Nat.{add-zero}
 use lib.ListN.{length}
 use lib.Seq.{sets}
@@ -15,8 +15,9 @@ use Rattle.entries.specs.declared.Standing.{Standing}
 use Rattle.entries.specs.declared.Standing.the-variants.{Apart, Head, More}
 use Rattle.entries.specs.Standings.{standing}
 use Rattle.series.specs.Series.{entryAt, entryCount, run, seriesOf, grants}
-use Rattle.plan.specs.Records.{moreFlags, planRecord}
-use Rattle.bwmap.specs.Plan.{moreNumbers}
+use Rattle.plan.specs.Records.{headFlags, moreFlags, planRecord, placed}
+use Rattle.plan.proofs.Placed.{placed-whole}
+use Rattle.plan.specs.Plan.{moreNumbers, seriesNumbers}
 use Rattle.bwmap.specs.Turns.{rest, tally, allocationAt, allocationsFrom}
 use Rattle.series.proofs.Runs.{run-nil, run-head, run-apart}
 
@@ -105,3 +106,10 @@ write-step at k h a b f p p′ l l′ e ha hf hp =
 
 pub write-done : (p : List ℕ) (at : ℕ) (h : Allocation) (l : List Allocation) → l ≡ [] → p ≡ sets p at (moreNumbers h l)
 write-done p at h l e = rw e
+
+-- a head's record, and behind it those of the entries that continue its burst
+pub write-head
+    : (p q r : List ℕ) (at f : ℕ) (h : Allocation) (l : List Allocation) → at + 4 ≤ length p → f ≡ headFlags h → q ≡ placed p at h f (h .start)
+    → r ≡ sets q (at + 4) (moreNumbers h l) → r ≡ sets p at (seriesNumbers (record { head = h; more = l }))
+unfolding seriesNumbers
+write-head p q r at f h l room hf hq hr = hr ∙ rw (hq ∙ placed-whole p at h f (h .start) room, hf, add-four)

@@ -5,6 +5,5 @@ pub mod Opens
 pub mod Determined
 pub mod Kept
 pub mod Once
-pub mod ReadBack
 pub mod Called
 pub mod Sums

@@ -1,7 +1,7 @@
 -- No upstream word is taken twice: not within a frame, not by the words carried over, not over any list of frame times.
 -- Assumes nothing.
-use Prim.Native.Nat.{ℕ, zero, suc, _+_, _-_, _*_, _≤_, _<_, zero-le}
-use mathlib.Core.Path.{_≡_, _∙_, refl, sym, ap}
+use Prim.Native.Nat.{ℕ, suc, _+_, _-_, _≤_, _<_, zero-le}
+use mathlib.Core.Path.{_≡_, _∙_, refl, ap}
 use mathlib.Core.List.{List, [], _∷_, _++_}
 use mathlib.Core.Bool.{Bool, true, false, cond, _&&_, false≢true}
 use native.Mathlib.Omega.{arith}
@@ -10,7 +10,8 @@ use borrow.Author.Tests.{lt-leb, ltb-true}
 use Rattle.station.specs.Limits.{upstreamWords}
 use Rattle.entries.specs.declared.Own.{Own}
 use Rattle.entries.specs.Standings.{isPlanned}
-use Rattle.series.specs.Series.{Series, seriesOf, standings, plannedOf, planned, burstWords, endOf, lastEnd, verdictOf}
+use Rattle.series.specs.declared.Around.{Around}
+use Rattle.series.specs.Series.{Series, seriesOf, standings, plannedOf, planned, burstWords, endOf, outset, beyond, lastEnd, verdictOf}
 use Rattle.bwmap.specs.Upstream.{FrameTime, Burst, finish, sent, carry, bursts, burstsOf, takes, takers, Apart}
 use Rattle.bwmap.specs.Upstream.FrameTime.{dark, frame}
 use Rattle.series.proofs.Judged.{planned-facts}
@@ -30,22 +31,22 @@ apart-append d e (x ∷ l) m a h b = (a .0, apart-append (finish x) e l m (a .1)
 
 -- ---- one frame time
 
-planned-apart : (o e n : ℕ) (l : List Series) → Apart (o + e) (bursts o (planned e n l))
-planned-apart o e n [] = tt
-planned-apart o e n (s ∷ l) = go (isPlanned (verdictOf e n s)) refl (planned-apart o (endOf s) (n + 1) l) (planned-apart o e n l)
+planned-apart : (o : ℕ) (around : Around) (l : List Series) → Apart (o + around .end) (bursts o (planned around l))
+planned-apart o around [] = tt
+planned-apart o around (s ∷ l) = go (isPlanned (verdictOf around s)) refl (planned-apart o (beyond around s) l) (planned-apart o around l)
   where
     go
-        : (b : Bool) → isPlanned (verdictOf e n s) ≡ b → Apart (o + endOf s) (bursts o (planned (endOf s) (n + 1) l))
-        → Apart (o + e) (bursts o (planned e n l))
-        → Apart (o + e) (bursts o (cond b (s ∷ planned (endOf s) (n + 1) l) (planned e n l)))
+        : (b : Bool) → isPlanned (verdictOf around s) ≡ b → Apart (o + endOf s) (bursts o (planned (beyond around s) l))
+        → Apart (o + around .end) (bursts o (planned around l))
+        → Apart (o + around .end) (bursts o (cond b (s ∷ planned (beyond around s) l) (planned around l)))
     go true t x y =
-        let f = planned-facts e n (s .head .start) (burstWords s) t in
-        (omega arith, apart-from (o + s .head .start + burstWords s) (o + endOf s) (bursts o (planned (endOf s) (n + 1) l)) (omega arith) x)
+        let f = planned-facts around (s .head .start) (burstWords s) t in
+        (omega arith, apart-from (o + s .head .start + burstWords s) (o + endOf s) (bursts o (planned (beyond around s) l)) (omega arith) x)
     go false t x y = y
 
 -- the bursts of a frame begin after the words carried over, each where the one before has ended or later
 pub frame-apart : (own : Own) (m : List ℕ) (carried : ℕ) → Apart carried (bursts 0 (plannedOf own m carried))
-frame-apart own m carried = apart-from carried (0 + carried) (bursts 0 (plannedOf own m carried)) (omega arith) (planned-apart 0 carried 0 (seriesOf (standings own m)))
+frame-apart own m carried = apart-from carried (0 + carried) (bursts 0 (plannedOf own m carried)) (omega arith) (planned-apart 0 (outset carried) (seriesOf (standings own m)))
 
 ends-bursts : (o e : ℕ) (l : List Series) → ends (o + e) (bursts o l) ≡ o + lastEnd e l
 ends-bursts o e [] = refl
@@ -57,7 +58,7 @@ ends-bursts o e (s ∷ l) =
 
 sent-apart : (o carried : ℕ) (t : FrameTime) → Apart (o + carried) (bursts o (sent carried t))
 sent-apart o carried dark = tt
-sent-apart o carried (frame own m) = planned-apart o carried 0 (seriesOf (standings own m))
+sent-apart o carried (frame own m) = planned-apart o (outset carried) (seriesOf (standings own m))
 
 pub times-apart : (o carried : ℕ) (l : List FrameTime) → Apart (o + carried) (burstsOf o carried l)
 times-apart o carried [] = tt

@@ -14,9 +14,10 @@ use Rattle.entries.specs.declared.Standing.{Standing}
 use Rattle.entries.specs.declared.Standing.the-variants.{Apart, Head, More}
 use Rattle.entries.specs.Standings.{standing, isPlanned}
 use Rattle.entries.proofs.Facts.{ours-is}
+use Rattle.series.specs.declared.Around.{Around}
 use Rattle.series.specs.Series.{Series, entryAt, entryCount, standingsFrom, run, seriesAt, seriesOf, judged, planned}
 use Rattle.plan.specs.Records.{mark}
-use Rattle.bwmap.specs.Plan.{seriesNumbers}
+use Rattle.plan.specs.Plan.{seriesNumbers}
 use Rattle.series.specs.Opens.{closed, opened, joined, goesOn, fits}
 use Rattle.bwmap.specs.Turns.{rest, Run, tally, Running, Stage, between, within, Reached, fieldsOf, allocationAt, allocationsFrom, toCome}
 use Rattle.series.specs.declared.Open.{Open}
@@ -32,7 +33,7 @@ use Rattle.bwmap.proofs.Steps.{head-low, count-is, judged-so, pass-seri
 abbrev Stops : Own → List ℕ → ℕ → Open → Type 0
 Stops own m i s = (k : ℕ) → s .entries ≡ k + 1 → run (15 - k) (rest own m i) ≡ []
 
-module _ (own : Own) (m : List ℕ) (e n from i : ℕ) (s : Open) where
+module _ (own : Own) (m : List ℕ) (around : Around) (from i : ℕ) (s : Open) where
   module _ (r : Running own m from i s) (stops : run (15 - r .more) (rest own m i) ≡ []) where
     abbrev counted : Run
     counted = record { count = r .more; grants = r .grants }
@@ -41,32 +42,32 @@ module _ (own : Own) (m : List ℕ) (e n from i : ℕ) (s : Open) where
     counted-so = tally-done (r .more) (r .grants) _ stops ∙ r .so-far
 
   shut
-      : Stage own m e n from i s → Stops own m i s → fits e n s ≡ false
-      → planned e n (seriesOf (rest own m i)) ≡ planned e n (seriesOf (rest own m from))
+      : Stage own m around from i s → Stops own m i s → fits around s ≡ false
+      → planned around (seriesOf (rest own m i)) ≡ planned around (seriesOf (rest own m from))
   shut (between o p) stops f = p
   shut (within r p) stops f =
       let d = stops (r .more) (ap (λ (x : Open). x .entries) (r .is)) in
       let so = counted-so r d in
-      let u : isPlanned (judged e n (s .start) (s .words)) ≡ false = unfit e n s (omega (arith, ap (λ (x : Open). x .entries) (r .is))) f in
-      let v = judged-so own m (r .at) (r .head) (r .lies) (r .stands) (counted r d) so e n (s .start) (s .words) (ap (λ (x : Open). x .start) (r .is)) (ap (λ (x : Open). x .words) (r .is)) in
-      ap (λ (j : ℕ). planned e n (seriesOf (rest own m j))) (r .here)
-      ∙ pass-series own m (r .at) (r .head) (r .lies) (r .stands) (counted r d) so e n (ap isPlanned (sym v) ∙ u)
+      let u : isPlanned (judged around (s .start) (s .words)) ≡ false = unfit around s (omega (arith, ap (λ (x : Open). x .entries) (r .is))) f in
+      let v = judged-so own m (r .at) (r .head) (r .lies) (r .stands) (counted r d) so around (s .start) (s .words) (ap (λ (x : Open). x .start) (r .is)) (ap (λ (x : Open). x .words) (r .is)) in
+      ap (λ (j : ℕ). planned around (seriesOf (rest own m j))) (r .here)
+      ∙ pass-series own m (r .at) (r .head) (r .lies) (r .stands) (counted r d) so around (ap isPlanned (sym v) ∙ u)
       ∙ p
 
   -- at the end of the map, or before an entry that does not go it on, a series that fits is the next one planned
   pub reached
-      : Stage own m e n from i s → Stops own m i s → fits e n s ≡ true → s .start < 65536 → i ≤ entryCount m → Reached own m e n from i s
+      : Stage own m around from i s → Stops own m i s → fits around s ≡ true → s .start < 65536 → i ≤ entryCount m → Reached own m around from i s
   reached (between o p) stops f low ends =
       let z : s .entries ≡ 0 = ap (λ (x : Open). x .entries) o in
-      let w : ⊥ = omega (arith, fits-facts e n s f .0) in
+      let w : ⊥ = omega (arith, fits-facts around s f .0) in
       absurd w
   reached (within r p) stops f low ends =
-      record { low = low; ends = ends; running = r; stops = stops (r .more) (ap (λ (x : Open). x .entries) (r .is)); fit = fits-facts e n s f .1; next = p }
+      record { low = low; ends = ends; running = r; stops = stops (r .more) (ap (λ (x : Open). x .entries) (r .is)); fit = fits-facts around s f .1; next = p }
 
   pub none-left
-      : Stage own m e n from i s → entryCount m ≤ i → fits e n s ≡ false → planned e n (seriesOf (rest own m from)) ≡ []
+      : Stage own m around from i s → entryCount m ≤ i → fits around s ≡ false → planned around (seriesOf (rest own m from)) ≡ []
   none-left g h f =
-      sym (shut g (λ k q. stop-end own m i k h) f) ∙ ap (λ (l : List Standing). planned e n (seriesOf l)) (rest-nil own m i h)
+      sym (shut g (λ k q. stop-end own m i k h) f) ∙ ap (λ (l : List Standing). planned around (seriesOf l)) (rest-nil own m i h)
 
   pub ended : entryCount m ≤ i → Stops own m i s
   ended h k q = stop-end own m i k h
@@ -82,19 +83,19 @@ module _ (own : Own) (m : List ℕ) (e n from i : ℕ) (s : Open) where
     more-stops f k o = stop-full own m i k (full-or-none s k f o)
 
     pub open-next
-        : (a : Allocation) (s′ : Open) → x ≡ Head a → s′ ≡ opened a → from ≤ i → Stage own m e n from i s → fits e n s ≡ false → Stage own m e n from (i + 1) s′
+        : (a : Allocation) (s′ : Open) → x ≡ Head a → s′ ≡ opened a → from ≤ i → Stage own m around from i s → fits around s ≡ false → Stage own m around from (i + 1) s′
     open-next a s′ q is after g f =
         within (record { at = i; head = a; more = 0; grants = 0; after = after; lies = h; stands = sym p ∙ q; here = omega arith; few = omega arith; is = is; so-far = refl })
         (shut g (head-stops a q) f)
 
     pub pass-stray
-        : (a : Allocation) (s′ : Open) → x ≡ More a → s′ ≡ closed → goesOn s ≡ false → Stage own m e n from i s → fits e n s ≡ false → Stage own m e n from (i + 1) s′
-    pass-stray a s′ q is o g f = between is (ap (planned e n) (pass-more own m i x h p a q) ∙ shut g (more-stops o) f)
+        : (a : Allocation) (s′ : Open) → x ≡ More a → s′ ≡ closed → goesOn s ≡ false → Stage own m around from i s → fits around s ≡ false → Stage own m around from (i + 1) s′
+    pass-stray a s′ q is o g f = between is (ap (planned around) (pass-more own m i x h p a q) ∙ shut g (more-stops o) f)
 
-    pub pass-by : (v : Verdict) (s′ : Open) → x ≡ Apart v → s′ ≡ closed → Stage own m e n from i s → fits e n s ≡ false → Stage own m e n from (i + 1) s′
-    pass-by v s′ q is g f = between is (ap (planned e n) (pass-apart own m i x h p v q) ∙ shut g (apart-stops v q) f)
+    pub pass-by : (v : Verdict) (s′ : Open) → x ≡ Apart v → s′ ≡ closed → Stage own m around from i s → fits around s ≡ false → Stage own m around from (i + 1) s′
+    pass-by v s′ q is g f = between is (ap (planned around) (pass-apart own m i x h p v q) ∙ shut g (apart-stops v q) f)
 
-    pub go-further : (a : Allocation) (s′ : Open) → x ≡ More a → s′ ≡ joined s a → goesOn s ≡ true → Stage own m e n from i s → Stage own m e n from (i + 1) s′
+    pub go-further : (a : Allocation) (s′ : Open) → x ≡ More a → s′ ≡ joined s a → goesOn s ≡ true → Stage own m around from i s → Stage own m around from (i + 1) s′
     go-further a s′ q is o (between z p′) =
         let y : s .entries ≡ 0 = ap (λ (x : Open). x .entries) z in
         let w : ⊥ = omega (arith, goes-on-facts s o .0) in
@@ -146,15 +147,15 @@ module _ (own : Own) (m : List ℕ) where
       go (Head a) q ih = refl
       go (More a) q ih = ap₂ _∷_ (allocation-is i a q) ih
 
-module _ (own : Own) (m p : List ℕ) (w : Walk) (i : ℕ) (s : Open) (d : Reached own m (w .end) (w .bursts) (w .at) i s) where
+module _ (own : Own) (m p : List ℕ) (w : Walk) (i : ℕ) (s : Open) (d : Reached own m (w .around) (w .at) i s) where
   abbrev r : Running own m (w .at) i s
   r = d .running
 
   abbrev read : Run
-  read = counted own m (w .end) (w .bursts) (w .at) i s r (d .stops)
+  read = counted own m (w .around) (w .at) i s r (d .stops)
 
   read-so : read ≡ tally 0 0 (run 15 (rest own m (r .at + 1)))
-  read-so = counted-so own m (w .end) (w .bursts) (w .at) i s r (d .stops)
+  read-so = counted-so own m (w .around) (w .at) i s r (d .stops)
 
   entries-are : s .entries ≡ r .more + 1
   entries-are = ap (λ (x : Open). x .entries) (r .is)
@@ -170,11 +171,11 @@ module _ (own : Own) (m p : List ℕ) (w : Walk) (i : ℕ) (s : Open) (d : Reach
 
   -- its numbers, and those of the walk
   pub sizes
-      : (1 ≤ s .entries) × (s .entries ≤ 16) × (s .entries ≤ i) × (w .at < i) × (i ≤ entryCount m) × (s .start ≤ 9719) × (s .words ≤ 9720) × (w .bursts < 4)
+      : (1 ≤ s .entries) × (s .entries ≤ 16) × (s .entries ≤ i) × (w .at < i) × (i ≤ entryCount m) × (s .start ≤ 9719) × (s .words ≤ 9720) × (w .around .bursts < 4)
   sizes =
       let wide : r .head .start < 2 ^ 16 = omega (arith, starts, d .low) in
       let low = head-low own m (r .at) (r .head) (r .lies) (r .stands) read read-so wide in
-      let f = planned-facts (w .end) (w .bursts) (s .start) (s .words) (d .fit) in
+      let f = planned-facts (w .around) (s .start) (s .words) (d .fit) in
       (omega (arith, entries-are), omega (arith, entries-are, r .few), omega (arith, entries-are, r .here), omega (arith, r .after, r .here), d .ends, omega (arith, starts, low), f .0, f .2)
 
   module _ (h : Allocation) (hh : h ≡ allocationAt m (i - s .entries)) where
@@ -192,10 +193,10 @@ module _ (own : Own) (m p : List ℕ) (w : Walk) (i : ℕ) (s : Open) (d : Reach
     pub plan-next
         : (q : List ℕ) (x : ℕ) → q ≡ sets p (4 * w .records) (seriesNumbers (record { head = h; more = allocationsFrom m (i - s .entries + 1) (s .entries - 1) }))
         → x ≡ mark (h .ploamu) 1
-        → toCome own m q (record { at = i; records = w .records + (s .entries - 1 + 1); bursts = w .bursts + 1; messages = w .messages + x; end = s .start + s .words })
+        → toCome own m q (record { at = i; records = w .records + (s .entries - 1 + 1); messages = w .messages + x; around = record { end = s .start + s .words; bursts = w .around .bursts + 1 } })
         ≡ toCome own m p w
     plan-next q x hq hx =
-        ap₂ (λ (j k : ℕ). toCome own m q (record { at = j; records = w .records + (k + 1); bursts = w .bursts + 1; messages = w .messages + x; end = s .start + s .words })) (r .here) more-are
+        ap₂ (λ (j k : ℕ). toCome own m q (record { at = j; records = w .records + (k + 1); messages = w .messages + x; around = record { end = s .start + s .words; bursts = w .around .bursts + 1 } })) (r .here) more-are
         ∙ plan-series own m (r .at) (r .head) (r .lies) (r .stands) read read-so p q w (s .start) (s .words) x starts (ap (λ (z : Open). z .words) (r .is)) (d .fit) (d .next)
         (hq ∙ ap (λ (z : Series). sets p (4 * w .records) (seriesNumbers z)) series-so)
         (hx ∙ ap (λ (a : Allocation). mark (a .ploamu) 1) head-so)

@@ -1,31 +1,29 @@
 -- The paper's sums 8 to 11: a map that is written is read again, and the rest is computed.
 -- Assumes nothing.
-use Prim.Native.Nat.{ℕ, zero, suc, _+_, _*_, _/_, _^_, _≤_, _<_}
+use Prim.Native.Nat.{ℕ, suc, _+_, _*_, _≤_}
 use mathlib.Core.Path.{_≡_, _∙_, refl, sym, ap, ap₂}
 use mathlib.Core.Bool.{Bool, true, false, cond}
 use mathlib.Core.List.{List, [], _∷_, _++_}
 use native.Mathlib.Omega.{arith}
-use native.Mathlib.Nat.{lt-of-lt-of-le}
-use lib.Dec.{leb, lit≤}
 use lib.ListN.{length, take, drop, length-append}
 use lib.Seq.{take-at, drop-at, drop-drop}
 use borrow.Author.Tests.{le-leb}
-use Rattle.hec.specs.Reads.{Reading, word, reading}
+use Rattle.hec.specs.Reads.{word, reading}
 use Rattle.hec.proofs.Nearest.{is-reading}
 use Rattle.hec.proofs.Words.{undamaged}
-use Rattle.framing.specs.Octets.{value, octets}
+use Rattle.octets.specs.Octets.{value, octets}
 use Rattle.xgtc.specs.Layouts.{allocationOf, allocationFits, allocationWord}
-use Rattle.framing.specs.Reads.{Found, fields, short, taken}
+use Rattle.xgem.specs.Reads.{fields, short, taken}
 use Rattle.xgtc.specs.Reads.{readAllocation}
 use Rattle.xgtc.specs.declared.allocation.Allocation.{Allocation}
-use Rattle.framing.proofs.Numbers.{octets-length, value-octets}
+use Rattle.xgem.proofs.Numbers.{octets-length, value-octets}
 use Rattle.xgtc.proofs.Layouts.{allocation-true, allocation-back}
 use Rattle.entries.specs.declared.Own.{Own}
 use Rattle.entries.specs.declared.Standing.{Standing}
 use Rattle.entries.specs.Standings.{standing, sorted, startUnfit, noRoom, continues, held}
-use Rattle.series.specs.Series.{Series, entryAt, entryCount, standingsFrom, standings, seriesOf, planned, plannedOf, judged, wordsOf, lastEnd, carriedOver}
+use Rattle.series.specs.Series.{Series, entryAt, entryCount, standingsFrom, seriesOf, outset, planned, plannedOf, judged, wordsOf, lastEnd, carriedOver}
 use Rattle.plan.specs.Records.{headFlags, moreFlags, burstFlags}
-use Rattle.bwmap.specs.Plan.{numbers, seriesNumbers}
+use Rattle.plan.specs.Plan.{numbers, seriesNumbers}
 use Rattle.bwmap.specs.Sums.{mapOf, five, grant, plan, carries, eight, Sum8, Sum9, Sum10, Sum11}
 
 module _ (a : Allocation) (fits : allocationFits a ≡ true) where
@@ -65,15 +63,15 @@ standings-from own m i (a ∷ l) f e =
     (standings-from own m (suc i) l (f .1)
     (ap (λ (n : ℕ). drop n m) next ∙ sym (drop-drop 8 (8 * i) m) ∙ ap (drop 8) e ∙ drop-at (octets 8 (allocationWord a)) (mapOf l) 8 (octets-length 8 (allocationWord a))))
 
-planned-written : (own : Own) (l : List Allocation) (carried : ℕ) → AllFit l → plannedOf own (mapOf l) carried ≡ planned carried 0 (seriesOf (standingsOf own l))
+planned-written : (own : Own) (l : List Allocation) (carried : ℕ) → AllFit l → plannedOf own (mapOf l) carried ≡ planned (outset carried) (seriesOf (standingsOf own l))
 planned-written own l carried f =
     let n : entryCount (mapOf l) ≡ length l = omega (arith, length-map l) in
-    ap (λ (k : ℕ). planned carried 0 (seriesOf (standingsFrom own (mapOf l) 0 k))) n
-    ∙ ap (λ (s : List Standing). planned carried 0 (seriesOf s)) (standings-from own (mapOf l) 0 l f refl)
+    ap (λ (k : ℕ). planned (outset carried) (seriesOf (standingsFrom own (mapOf l) 0 k))) n
+    ∙ ap (λ (s : List Standing). planned (outset carried) (seriesOf s)) (standings-from own (mapOf l) 0 l f refl)
 
 -- the plan and the carried words, computed from the fields
 abbrev planBy : ℕ → List Allocation → List ℕ
-planBy carried l = numbers (planned carried 0 (seriesOf (standingsOf five l)))
+planBy carried l = numbers (planned (outset carried) (seriesOf (standingsOf five l)))
 
 plan-is : (carried : ℕ) (l : List Allocation) → AllFit l → plan carried l ≡ planBy carried l
 plan-is carried l f = ap numbers (planned-written five l carried f)

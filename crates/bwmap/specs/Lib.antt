@@ -1,8 +1,6 @@
-pub mod Limits
 pub mod Plan
 pub mod Promises
 pub mod Upstream
 pub mod Turns
-pub mod Laser
 pub mod Verdicts
 pub mod Sums

@@ -8,10 +8,11 @@ use Rattle.xgtc.specs.declared.allocation.Allocation.{Allocation}
 use Rattle.entries.specs.Limits.{lastStart}
 use Rattle.entries.specs.declared.Own.{Own}
 use Rattle.entries.specs.declared.Verdict.{Verdict}
-use Rattle.entries.specs.declared.Verdict.the-variants.{Planned, Unreadable, StartTimeUnfit, DbruWithoutRoom, Foreign, ContinuingNothing, Seventeenth, TooLong, Overlapping, AfterTheFourth, Silent}
+use Rattle.entries.specs.declared.Verdict.the-variants.{Planned, Unreadable, StartTimeUnfit, DbruWithoutRoom, Foreign, ContinuingNothing, Seventeenth, TooLong, Overlapping, AfterTheLast, Silent}
 use Rattle.entries.specs.Standings.{Mine}
 use Rattle.series.specs.Limits.{wordsABurst, burstsAFrame, entriesABurst}
-use Rattle.series.specs.Series.{Series, entryAt, entryCount, burstWords, endOf}
+use Rattle.series.specs.declared.Around.{Around}
+use Rattle.series.specs.Series.{Series, entryAt, entryCount, burstWords, beyond}
 
 -- ---- whose a series is
 
@@ -35,26 +36,25 @@ Every P (s ∷ l) = P s × Every P l
 
 -- ---- why a series is planned or not
 
--- the fact behind each verdict on a series that is reached after n planned bursts of which the last ends at e, with
--- nothing earlier in the list of reasons
-abbrev pub Because : ℕ → ℕ → Series → Verdict → Type 0
-Because e n s TooLong = wordsABurst < burstWords s
-Because e n s Overlapping = (burstWords s ≤ wordsABurst) × (s .head .start < e)
-Because e n s AfterTheFourth = (burstWords s ≤ wordsABurst) × (e ≤ s .head .start) × (burstsAFrame ≤ n)
-Because e n s Planned = (burstWords s ≤ wordsABurst) × (e ≤ s .head .start) × (n < burstsAFrame)
-Because e n s Unreadable = ⊥
-Because e n s StartTimeUnfit = ⊥
-Because e n s DbruWithoutRoom = ⊥
-Because e n s Foreign = ⊥
-Because e n s ContinuingNothing = ⊥
-Because e n s Seventeenth = ⊥
-Because e n s Silent = ⊥
+-- the fact behind each verdict on a series, with nothing earlier in the list of reasons
+abbrev pub Because : Around → Series → Verdict → Type 0
+Because around s TooLong = wordsABurst < burstWords s
+Because around s Overlapping = (burstWords s ≤ wordsABurst) × (s .head .start < around .end)
+Because around s AfterTheLast = (burstWords s ≤ wordsABurst) × (around .end ≤ s .head .start) × (burstsAFrame ≤ around .bursts)
+Because around s Planned = (burstWords s ≤ wordsABurst) × (around .end ≤ s .head .start) × (around .bursts < burstsAFrame)
+Because around s Unreadable = ⊥
+Because around s StartTimeUnfit = ⊥
+Because around s DbruWithoutRoom = ⊥
+Because around s Foreign = ⊥
+Because around s ContinuingNothing = ⊥
+Because around s Seventeenth = ⊥
+Because around s Silent = ⊥
 
 -- a plan accounts for every series of ours, in map order: it is planned once, or passed over for its first reason and
 -- then moves nothing
-pub data Account : ℕ → ℕ → List Series → List Series → Type 0 where
-  done : {e n : ℕ} → Account e n [] []
-  plans : {e n : ℕ} {s : Series} {l p : List Series} → Because e n s Planned → Account (endOf s) (n + 1) l p → Account e n (s ∷ l) (s ∷ p)
-  too-long : {e n : ℕ} {s : Series} {l p : List Series} → Because e n s TooLong → Account e n l p → Account e n (s ∷ l) p
-  overlapping : {e n : ℕ} {s : Series} {l p : List Series} → Because e n s Overlapping → Account e n l p → Account e n (s ∷ l) p
-  after-the-fourth : {e n : ℕ} {s : Series} {l p : List Series} → Because e n s AfterTheFourth → Account e n l p → Account e n (s ∷ l) p
+pub data Account : Around → List Series → List Series → Type 0 where
+  done : {around : Around} → Account around [] []
+  plans : {around : Around} {s : Series} {l p : List Series} → Because around s Planned → Account (beyond around s) l p → Account around (s ∷ l) (s ∷ p)
+  too-long : {around : Around} {s : Series} {l p : List Series} → Because around s TooLong → Account around l p → Account around (s ∷ l) p
+  overlapping : {around : Around} {s : Series} {l p : List Series} → Because around s Overlapping → Account around l p → Account around (s ∷ l) p
+  after-the-last : {around : Around} {s : Series} {l p : List Series} → Because around s AfterTheLast → Account around l p → Account around (s ∷ l) p

@@ -5,14 +5,14 @@ use mathlib.Core.Path.{_≡_}
 use mathlib.Core.Bool.{Bool, true, false}
 use mathlib.Core.List.{List, [], _∷_, _++_}
 use lib.ListN.{replicate}
-use Rattle.framing.specs.Octets.{octets}
+use Rattle.octets.specs.Octets.{octets}
 use Rattle.xgtc.specs.Layouts.{allocationWord}
 use Rattle.xgtc.specs.declared.allocation.Allocation.{Allocation}
 use Rattle.station.specs.declared.Activation.the-variants.{Operation}
 use Rattle.entries.specs.Limits.{structureOctets, continuing}
 use Rattle.entries.specs.declared.Own.{Own}
 use Rattle.series.specs.Series.{plannedOf, lastEnd, carriedOver}
-use Rattle.bwmap.specs.Plan.{numbers}
+use Rattle.plan.specs.Plan.{numbers}
 
 -- the octets of a map
 abbrev pub mapOf : List Allocation → List ℕ

@@ -6,16 +6,17 @@ use mathlib.Core.Path.{_≡_}
 use mathlib.Core.List.{List, [], _∷_}
 use lib.ListN.{length}
 use lib.Seq.{sets}
-use Rattle.framing.specs.Reads.{Found, fields, unreadable, short}
+use Rattle.xgem.specs.Reads.{Found, fields, unreadable, short}
 use Rattle.xgtc.specs.declared.allocation.Allocation.{Allocation}
 use Rattle.entries.specs.declared.Own.{Own}
 use Rattle.entries.specs.declared.Standing.{Standing}
 use Rattle.entries.specs.declared.Standing.the-variants.{Head}
 use Rattle.entries.specs.Standings.{standing, isPlanned}
 use Rattle.series.specs.Limits.{burstsAFrame, entriesABurst}
-use Rattle.bwmap.specs.Limits.{numbersARecord}
-use Rattle.series.specs.Series.{Series, entryAt, entryCount, standingsFrom, run, seriesOf, grants, wordsOf, judged, planned, lastEnd}
-use Rattle.bwmap.specs.Plan.{numbers, records, messages}
+use Rattle.plan.specs.Limits.{numbersARecord}
+use Rattle.series.specs.declared.Around.{Around}
+use Rattle.series.specs.Series.{Series, entryAt, entryCount, standingsFrom, run, seriesOf, grants, wordsOf, outset, judged, planned, lastEnd}
+use Rattle.plan.specs.Plan.{numbers, records, messages}
 use Rattle.series.specs.Opens.{closed}
 use Rattle.series.specs.declared.Open.{Open}
 use Rattle.bwmap.specs.declared.search.Next.{Next}
@@ -51,22 +52,22 @@ pub record Running (own : Own) (m : List ℕ) (from i : ℕ) (s : Open) : Type 0
   pub so-far : tally more grants (run (15 - more) (rest own m i)) ≡ tally 0 0 (run 15 (rest own m (at + 1)))
 
 -- between `from` and the i-th entry, or the head of the series that is open, none is planned
-pub data Stage (own : Own) (m : List ℕ) (e n from i : ℕ) (s : Open) : Type 0 where
-  between : s ≡ closed → planned e n (seriesOf (rest own m i)) ≡ planned e n (seriesOf (rest own m from)) → Stage own m e n from i s
-  within : (r : Running own m from i s) → planned e n (seriesOf (rest own m (r .at))) ≡ planned e n (seriesOf (rest own m from)) → Stage own m e n from i s
+pub data Stage (own : Own) (m : List ℕ) (around : Around) (from i : ℕ) (s : Open) : Type 0 where
+  between : s ≡ closed → planned around (seriesOf (rest own m i)) ≡ planned around (seriesOf (rest own m from)) → Stage own m around from i s
+  within : (r : Running own m from i s) → planned around (seriesOf (rest own m (r .at))) ≡ planned around (seriesOf (rest own m from)) → Stage own m around from i s
 
 -- the series that ends before the i-th entry is the next one planned
-pub record Reached (own : Own) (m : List ℕ) (e n from i : ℕ) (s : Open) : Type 0 where
+pub record Reached (own : Own) (m : List ℕ) (around : Around) (from i : ℕ) (s : Open) : Type 0 where
   pub low : s .start < 65536
   pub ends : i ≤ entryCount m
   pub running : Running own m from i s
   pub stops : run (15 - running .more) (rest own m i) ≡ []
-  pub fit : isPlanned (judged e n (s .start) (s .words)) ≡ true
-  pub next : planned e n (seriesOf (rest own m (running .at))) ≡ planned e n (seriesOf (rest own m from))
+  pub fit : isPlanned (judged around (s .start) (s .words)) ≡ true
+  pub next : planned around (seriesOf (rest own m (running .at))) ≡ planned around (seriesOf (rest own m from))
 
-abbrev pub NextPlanned : Own → List ℕ → ℕ → ℕ → ℕ → Next → Type 0
-NextPlanned own m e n from (Until i s) = Reached own m e n from i s
-NextPlanned own m e n from Nowhere = planned e n (seriesOf (rest own m from)) ≡ []
+abbrev pub NextPlanned : Own → List ℕ → Around → ℕ → Next → Type 0
+NextPlanned own m around from (Until i s) = Reached own m around from i s
+NextPlanned own m around from Nowhere = planned around (seriesOf (rest own m from)) ≡ []
 
 -- ---- the entries of a series as they are written
 
@@ -89,33 +90,33 @@ allocationsFrom m i (suc k) = allocationAt m i ∷ allocationsFrom m (suc i) k
 -- ---- what is still to come
 
 -- the numbers of a plan and what is counted, with the series l still to be written
-pub record Outcome : Type 0 where
+pub record Finished : Type 0 where
   pub plan : List ℕ
   pub records : ℕ
   pub bursts : ℕ
   pub messages : ℕ
   pub end : ℕ
 
-abbrev pub outcome : List ℕ → Walk → List Series → Outcome
-outcome p w l =
+abbrev pub finished : List ℕ → Walk → List Series → Finished
+finished p w l =
     record {
       plan = sets p (numbersARecord * w .records) (numbers l);
       records = w .records + records l;
-      bursts = w .bursts + length l;
+      bursts = w .around .bursts + length l;
       messages = w .messages + messages l;
-      end = lastEnd (w .end) l;
+      end = lastEnd (w .around .end) l;
     }
 
-abbrev pub toCome : Own → List ℕ → List ℕ → Walk → Outcome
-toCome own m p w = outcome p w (planned (w .end) (w .bursts) (seriesOf (rest own m (w .at))))
+abbrev pub toCome : Own → List ℕ → List ℕ → Walk → Finished
+toCome own m p w = finished p w (planned (w .around) (seriesOf (rest own m (w .at))))
 
 -- where a walk begins: the words carried over stand for the last burst
 abbrev pub starting : ℕ → Walk
-starting carried = record { at = 0; records = 0; bursts = 0; messages = 0; end = carried }
+starting carried = record { at = 0; records = 0; messages = 0; around = outset carried }
 
 -- the numbers of a walk stay small
 pub record Small (w : Walk) : Type 0 where
-  pub few : w .bursts ≤ burstsAFrame
-  pub room : w .records ≤ entriesABurst * w .bursts
-  pub sent : w .messages ≤ w .bursts
-  pub low : w .end ≤ 65535
+  pub few : w .around .bursts ≤ burstsAFrame
+  pub room : w .records ≤ entriesABurst * w .around .bursts
+  pub sent : w .messages ≤ w .around .bursts
+  pub low : w .around .end ≤ 65535

@@ -1,11 +1,11 @@
 -- What becomes of each entry of a map: its verdict.
 -- Assumes nothing.
-use Prim.Native.Nat.{ℕ, zero, suc, _+_}
-use mathlib.Core.Bool.{Bool, cond}
+use Prim.Native.Nat.{ℕ, zero, suc}
+use mathlib.Core.Bool.{cond}
 use mathlib.Core.List.{List, [], _∷_, _++_}
 use lib.Dec.{ltb}
 use Rattle.xgtc.specs.declared.allocation.Allocation.{Allocation}
-use Rattle.framing.specs.Reads.{Found, fields, unreadable, short}
+use Rattle.xgem.specs.Reads.{Found, fields}
 use Rattle.entries.specs.declared.Own.{Own}
 use Rattle.entries.specs.declared.Verdict.{Verdict}
 use Rattle.entries.specs.declared.Verdict.the-variants.{ContinuingNothing, Seventeenth}
@@ -13,7 +13,8 @@ use Rattle.entries.specs.declared.Standing.{Standing}
 use Rattle.entries.specs.declared.Standing.the-variants.{Apart, Head, More}
 use Rattle.entries.specs.Standings.{isPlanned}
 use Rattle.series.specs.Limits.{entriesABurst}
-use Rattle.series.specs.Series.{Series, entryAt, entryCount, standings, seriesAt, endOf, verdictOf}
+use Rattle.series.specs.declared.Around.{Around}
+use Rattle.series.specs.Series.{Series, entryAt, entryCount, standings, seriesAt, outset, beyond, verdictOf}
 
 -- what an entry is among the others: alone, with its verdict; the head of a series; or one that goes a series on
 pub data Role : Type 0 where
@@ -31,16 +32,16 @@ roles zero (More a ∷ l) = alone ContinuingNothing ∷ roles 0 l
 roles (suc k) (More a ∷ l) = cond (ltb (suc k) entriesABurst) (joins ∷ roles (suc (suc k)) l) (alone Seventeenth ∷ roles 0 l)
 
 -- the entries of a series have its verdict, v for the one that is open
-abbrev pub verdictsOf : ℕ → ℕ → Verdict → List Role → List Verdict
-verdictsOf e n v [] = []
-verdictsOf e n v (alone x ∷ l) = x ∷ verdictsOf e n v l
-verdictsOf e n v (joins ∷ l) = v ∷ verdictsOf e n v l
-verdictsOf e n v (opens s ∷ l) =
-    verdictOf e n s
-    ∷ cond (isPlanned (verdictOf e n s)) (verdictsOf (endOf s) (n + 1) (verdictOf e n s) l) (verdictsOf e n (verdictOf e n s) l)
+abbrev pub verdictsOf : Around → Verdict → List Role → List Verdict
+verdictsOf around v [] = []
+verdictsOf around v (alone x ∷ l) = x ∷ verdictsOf around v l
+verdictsOf around v (joins ∷ l) = v ∷ verdictsOf around v l
+verdictsOf around v (opens s ∷ l) =
+    verdictOf around s
+    ∷ cond (isPlanned (verdictOf around s)) (verdictsOf (beyond around s) (verdictOf around s) l) (verdictsOf around (verdictOf around s) l)
 
 abbrev pub verdicts : Own → List ℕ → ℕ → List Verdict
-verdicts own m carried = verdictsOf carried 0 ContinuingNothing (roles 0 (standings own m))
+verdicts own m carried = verdictsOf (outset carried) ContinuingNothing (roles 0 (standings own m))
 
 -- ---- the entries that are called planned
 

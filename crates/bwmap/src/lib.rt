@@ -4,21 +4,18 @@ mod records;
 mod search;
 
 use entries::Own;
+use entries::STRUCTURE_OCTETS;
 ghost use Prim.Native.Nat.{_+_, _*_, _≤_, _<_};
 ghost use mathlib.Core.Path.{_≡_};
 ghost use lib.ListN.{length};
 ghost use mathlib.Core.List.{[]};
-ghost use Rattle.bwmap.specs.Limits.{planNumbers};
+ghost use Rattle.plan.specs.Limits.{planNumbers};
 ghost use Rattle.series.specs.Series.{entryCount, carriedOver};
-ghost use Rattle.bwmap.specs.Turns.{outcome, toCome, starting, Small};
+ghost use Rattle.bwmap.specs.Turns.{finished, toCome, starting, Small};
 ghost use Rattle.bwmap.specs.Plan.{MapLeaves};
 use search::Next;
-
-// Numbers that a plan must have room for.
-pub const PLAN_NUMBERS: usize = 256;
-
-// Words of an upstream frame.
-const UPSTREAM_WORDS: usize = 9720;
+use series::Around;
+use station::limits::UPSTREAM_WORDS;
 
 // What is planned of a map.
 pub struct Plan {
@@ -33,7 +30,7 @@ pub struct Plan {
     pub carried: u16,
 }
 
-pub enum Answer {
+pub enum Planning {
     Planned(Plan),
     PlanTooShort,
 }
@@ -42,9 +39,8 @@ pub enum Answer {
 pub struct Walk {
     pub at: usize,
     pub records: usize,
-    pub bursts: usize,
     pub messages: usize,
-    pub end: usize,
+    pub around: Around,
 }
 
 fn carried_over(end: usize) -> u16
@@ -62,28 +58,29 @@ fn turn(map: &[u8], own: Own, w: Walk, plan: &mut [u16]) -> Walk
     requires { ⌜ (w .at < entryCount (now map)) × (planNumbers ≤ length (now plan)) × Small w ⌝ }
     ensures { λ r. ⌜ Small r × (w .at < r .at) × (r .at ≤ entryCount (now (map .entry))) × (toCome own (now (map .entry)) (now (plan .exit)) r ≡ toCome own (now (map .entry)) (now (plan .entry)) w) ⌝ }
 {
-    let last = w.end;
-    match search::next_planned(map, own, w.at, last, w.bursts) {
+    let before = w.around;
+    match search::next_planned(map, own, w.at, before) {
         Next::Until(next, s) => {
             let at = next - s.entries;
             let more = s.entries - 1;
             let h = records::allocation_at(map, at);
-            let place = records::NUMBERS_A_RECORD * w.records;
+            let place = plan::NUMBERS_A_RECORD * w.records;
             records::write_series(map, at + 1, more, h, plan, place);
             Walk {
                 at: next,
                 records: w.records + (more + 1),
-                bursts: w.bursts + 1,
                 messages: w.messages + records::mark(h.ploamu, 1),
-                end: s.start + s.words,
+                around: Around {
+                    end: s.start + s.words,
+                    bursts: before.bursts + 1,
+                },
             }
         }
         Next::Nowhere => Walk {
-            at: map.len() / search::STRUCTURE_OCTETS,
+            at: map.len() / STRUCTURE_OCTETS,
             records: w.records,
-            bursts: w.bursts,
             messages: w.messages,
-            end: last,
+            around: before,
         },
     }
 }
@@ -91,18 +88,21 @@ fn turn(map: &[u8], own: Own, w: Walk, plan: &mut [u16]) -> Walk
 // The walk over the whole map. Once the last burst that a frame may have is planned, every series is passed over.
 fn walk_map(map: &[u8], own: Own, carried: u16, plan: &mut [u16]) -> Walk
     requires { ⌜ planNumbers ≤ length (now plan) ⌝ }
-    ensures { λ r. ⌜ Small r × (outcome (now (plan .exit)) r [] ≡ toCome own (now (map .entry)) (now (plan .entry)) (starting carried)) ⌝ }
+    ensures { λ r. ⌜ Small r × (finished (now (plan .exit)) r [] ≡ toCome own (now (map .entry)) (now (plan .entry)) (starting carried)) ⌝ }
 {
     let mut w = Walk {
         at: 0,
         records: 0,
-        bursts: 0,
         messages: 0,
-        end: search::long(carried),
+        around: Around {
+            end: search::long(carried),
+            bursts: 0,
+        },
     };
-    let n = map.len() / search::STRUCTURE_OCTETS;
+    let n = map.len() / STRUCTURE_OCTETS;
     while w.at < n {
-        if series::BURSTS_A_FRAME <= w.bursts {
+        let before = w.around;
+        if series::BURSTS_A_FRAME <= before.bursts {
             return w;
         }
         w = turn(map, own, w, plan);
@@ -111,15 +111,16 @@ fn walk_map(map: &[u8], own: Own, carried: u16, plan: &mut [u16]) -> Walk
 }
 
 // The plan of a map: records of four numbers at the start of the lent plan, the rest of which keeps its content.
-pub fn plan_map(map: &[u8], own: Own, carried: u16, plan: &mut [u16]) -> Answer
+pub fn plan_map(map: &[u8], own: Own, carried: u16, plan: &mut [u16]) -> Planning
     ensures { λ r. ⌜ MapLeaves own (now (map .entry)) carried (now (plan .entry)) r (now (plan .exit)) ⌝ }
 {
-    if plan.len() < PLAN_NUMBERS {
-        return Answer::PlanTooShort;
+    if plan.len() < plan::PLAN_NUMBERS {
+        return Planning::PlanTooShort;
     }
-    if own.is_silent() {
+    let activation = own.activation;
+    if activation.is_silent() {
         let end = search::long(carried);
-        return Answer::Planned(Plan {
+        return Planning::Planned(Plan {
             records: 0,
             bursts: 0,
             messages: 0,
@@ -128,11 +129,12 @@ pub fn plan_map(map: &[u8], own: Own, carried: u16, plan: &mut [u16]) -> Answer
         });
     }
     let w = walk_map(map, own, carried, plan);
-    Answer::Planned(Plan {
+    let last = w.around;
+    Planning::Planned(Plan {
         records: w.records,
-        bursts: w.bursts,
+        bursts: last.bursts,
         messages: w.messages,
-        end: w.end,
-        carried: carried_over(w.end),
+        end: last.end,
+        carried: carried_over(last.end),
     })
 }

@@ -1,5 +1,5 @@
 // The records of a plan.
-use super::search;
+use entries::STRUCTURE_OCTETS;
 use ids::AllocId;
 use xgtc::allocation::Allocation;
 use xgtc::allocation::AllocationRead;
@@ -9,11 +9,9 @@ ghost use lib.ListN.{length};
 ghost use lib.Seq.{sets};
 ghost use Rattle.series.specs.Series.{entryCount};
 ghost use Rattle.bwmap.specs.Turns.{noAllocation, allocationAt, allocationsFrom};
-ghost use Rattle.plan.specs.Records.{mark, planRecord};
-ghost use Rattle.bwmap.specs.Plan.{moreNumbers, seriesNumbers};
-
-// Numbers of a record.
-pub(crate) const NUMBERS_A_RECORD: usize = 4;
+ghost use Rattle.plan.specs.Limits.{numbersARecord};
+ghost use Rattle.plan.specs.Records.{mark};
+ghost use Rattle.plan.specs.Plan.{moreNumbers, seriesNumbers};
 
 pub(crate) fn mark(set: bool, weight: usize) -> usize
     ensures { λ r. ⌜ (r ≡ mark set weight) × (r ≤ weight) ⌝ }
@@ -35,23 +33,12 @@ fn no_allocation() -> Allocation
     }
 }
 
-fn put(plan: &mut [u16], at: usize, a: Allocation, flags: u16, start: u16)
-    requires { ⌜ at + 4 ≤ length (now plan) ⌝ }
-    ensures { λ r. ⌜ now (plan .exit) ≡ sets (now (plan .entry)) at (planRecord a flags start) ⌝ }
-{
-    let id = a.alloc;
-    plan[at] = id.0;
-    plan[at + 1] = flags;
-    plan[at + 2] = start;
-    plan[at + 3] = a.grant;
-}
-
 // The fields of the i-th entry; zeros stand for one that could not be read, and none such is planned.
 pub(crate) fn allocation_at(map: &[u8], i: usize) -> Allocation
     requires { ⌜ i < entryCount (now map) ⌝ }
     ensures { λ r. ⌜ r ≡ allocationAt (now (map .entry)) i ⌝ }
 {
-    let at = search::STRUCTURE_OCTETS * i;
+    let at = STRUCTURE_OCTETS * i;
     match entries::reading::read_entry(&map[at..]) {
         AllocationRead::Fields(a) => a,
         AllocationRead::Unreadable => no_allocation(),
@@ -61,15 +48,15 @@ pub(crate) fn allocation_at(map: &[u8], i: usize) -> Allocation
 
 // The records of `count` entries from `from` on, which continue the burst of the head h.
 fn write_more(map: &[u8], from: usize, count: usize, h: Allocation, plan: &mut [u16], at: usize)
-    requires { ⌜ (from + count ≤ entryCount (now map)) × (at + 4 * count ≤ length (now plan)) ⌝ }
+    requires { ⌜ (from + count ≤ entryCount (now map)) × (at + numbersARecord * count ≤ length (now plan)) ⌝ }
     ensures { λ r. ⌜ now (plan .exit) ≡ sets (now (plan .entry)) at (moreNumbers h (allocationsFrom (now (map .entry)) from count)) ⌝ }
 {
     let mut k: usize = 0;
     while k < count {
         let a = allocation_at(map, from + k);
-        put(
+        plan::write_record(
             plan,
-            at + NUMBERS_A_RECORD * k,
+            at + plan::NUMBERS_A_RECORD * k,
             a,
             plan::more_flags(h, a),
             h.start,
@@ -87,9 +74,9 @@ pub(crate) fn write_series(
     plan: &mut [u16],
     at: usize,
 )
-    requires { ⌜ (from + count ≤ entryCount (now map)) × (at + 4 + 4 * count ≤ length (now plan)) ⌝ }
+    requires { ⌜ (from + count ≤ entryCount (now map)) × (at + numbersARecord + numbersARecord * count ≤ length (now plan)) ⌝ }
     ensures { λ r. ⌜ now (plan .exit) ≡ sets (now (plan .entry)) at (seriesNumbers (record { head = h; more = allocationsFrom (now (map .entry)) from count })) ⌝ }
 {
-    put(plan, at, h, plan::head_flags(h), h.start);
-    write_more(map, from, count, h, plan, at + NUMBERS_A_RECORD);
+    plan::write_record(plan, at, h, plan::head_flags(h), h.start);
+    write_more(map, from, count, h, plan, at + plan::NUMBERS_A_RECORD);
 }

@@ -1,6 +1,8 @@
 // The search for the next series of a map that is planned.
 use entries::Own;
+use entries::STRUCTURE_OCTETS;
 use entries::Standing;
+use series::Around;
 use series::Open;
 use xgtc::allocation::Allocation;
 ghost use Prim.Native.Nat.{_≤_, _<_};
@@ -10,9 +12,6 @@ ghost use Rattle.entries.specs.Standings.{standing};
 ghost use Rattle.series.specs.Series.{entryAt, entryCount};
 ghost use Rattle.series.specs.Opens.{joined, goesOn, Modest};
 ghost use Rattle.bwmap.specs.Turns.{NextPlanned};
-
-// Octets of an allocation structure.
-pub(crate) const STRUCTURE_OCTETS: usize = 8;
 
 // The next series that is planned, read until the entry before which it ends.
 pub enum Next {
@@ -46,11 +45,11 @@ fn joined(s: Open, a: Allocation) -> Open
     }
 }
 
-// The next series from `from` on that is planned, after so many bursts of which the last ends at `end`. Each entry is
+// The next series from `from` on that is planned, with what is around it before. Each entry is
 // read once, in one loop, and series that are passed over stay in it: most entries of a map are foreign.
-pub(crate) fn next_planned(map: &[u8], own: Own, from: usize, end: usize, bursts: usize) -> Next
+pub(crate) fn next_planned(map: &[u8], own: Own, from: usize, around: Around) -> Next
     requires { ⌜ from ≤ entryCount (now map) ⌝ }
-    ensures { λ r. ⌜ NextPlanned own (now (map .entry)) end bursts from r ⌝ }
+    ensures { λ r. ⌜ NextPlanned own (now (map .entry)) around from r ⌝ }
 {
     let n = map.len() / STRUCTURE_OCTETS;
     let mut s = series::closed();
@@ -58,7 +57,7 @@ pub(crate) fn next_planned(map: &[u8], own: Own, from: usize, end: usize, bursts
     while i < n {
         match read_at(map, own, i) {
             Standing::Head(h) => {
-                if series::fits(end, bursts, s) {
+                if series::fits(around, s) {
                     return Next::Until(i, s);
                 }
                 s = series::opened(h);
@@ -69,7 +68,7 @@ pub(crate) fn next_planned(map: &[u8], own: Own, from: usize, end: usize, bursts
                     s = joined(s, a);
                     i += 1;
                 } else {
-                    if series::fits(end, bursts, s) {
+                    if series::fits(around, s) {
                         return Next::Until(i, s);
                     }
                     s = series::closed();
@@ -77,7 +76,7 @@ pub(crate) fn next_planned(map: &[u8], own: Own, from: usize, end: usize, bursts
                 }
             }
             Standing::Apart(_) => {
-                if series::fits(end, bursts, s) {
+                if series::fits(around, s) {
                     return Next::Until(i, s);
                 }
                 s = series::closed();
@@ -85,7 +84,7 @@ pub(crate) fn next_planned(map: &[u8], own: Own, from: usize, end: usize, bursts
             }
         }
     }
-    if series::fits(end, bursts, s) {
+    if series::fits(around, s) {
         return Next::Until(i, s);
     }
     Next::Nowhere

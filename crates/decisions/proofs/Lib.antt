@@ -1,2 +1,3 @@
 pub mod Acting
 pub mod Resting
+pub mod Sums

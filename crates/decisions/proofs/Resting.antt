@@ -27,12 +27,13 @@ use Rattle.effects.specs.declared.Change.the-variants.{Keep, Identify, Range, D
 use Rattle.effects.specs.declared.Debt.{Debt}
 use Rattle.effects.specs.declared.Debt.the-variants.{Free, Owes}
 use Rattle.effects.specs.declared.Effect.{Effect}
-use Rattle.effects.specs.declared.ranging.Target.{Target}
-use Rattle.effects.specs.declared.ranging.Target.the-variants.{To, Outside}
+use Rattle.decisions.specs.declared.ranging.Target.{Target}
+use Rattle.decisions.specs.declared.ranging.Target.the-variants.{To, Outside}
 use Rattle.effects.specs.Effects.{ignored, isIgnored}
 use Rattle.effects.specs.Changes.{identify, range, setDelay, applyChange, applyDebt, applied}
-use Rattle.effects.specs.Ranging.{absolute, moved, answered, unanswered, rangingTime}
-use Rattle.decisions.specs.Decisions.{found, assignOnuId, allocChange, assignAllocId, requestRegistration, deactivate, switchOff, switchOn, switched, disable, unknownType}
+use Rattle.decisions.specs.Ranging.{absolute, moved, answered, unanswered, rangingTime}
+use Rattle.decisions.specs.Decisions.{assignOnuId, allocChange, assignAllocId, requestRegistration, deactivate, switchOff, switchOn, switched, disable, unknownType}
+use Rattle.ids.specs.Places.{isHeld}
 use Rattle.decisions.specs.Decisions.{byContent, isBroadcast, isOurs, effectOf, room, decision}
 use Rattle.decisions.specs.Acts.{act}
 use Rattle.decisions.proofs.Acting.{order-of-tests, act-ignored}
@@ -86,10 +87,10 @@ answered-leads Outside seq = leads Keep _ refl
 
 alloc-leads : (allocs : Allocs) (seq : ℕ) (id : AllocId) (change : AllocChange) → Leads (allocChange allocs seq id change)
 alloc-leads allocs seq id Assign =
-    either Leads (found (allocPlace allocs id)) _ _ (leads Keep _ refl)
+    either Leads (isHeld (allocPlace allocs id)) _ _ (leads Keep _ refl)
     (either Leads (leb addedAllocs (allocs .count)) _ _ (leads Keep _ refl) (leads (AddAlloc id) _ refl))
 alloc-leads allocs seq id Deallocate =
-    either Leads (found (allocPlace allocs id)) _ _ (leads (RemoveAlloc id) _ refl) (leads Keep _ refl)
+    either Leads (isHeld (allocPlace allocs id)) _ _ (leads (RemoveAlloc id) _ refl) (leads Keep _ refl)
 alloc-leads allocs seq id OtherChange = leads Keep _ refl
 
 off-leads : (a : Activation) → Leads (switchOff a)

@@ -21,9 +21,8 @@ use Rattle.station.specs.declared.Activation.the-variants.{Initial, EmergencySt
 use Rattle.station.specs.declared.Station.{Station}
 use Rattle.link.specs.declared.Allocs.{Allocs}
 use Rattle.link.specs.declared.Queue.{Queue}
-use Rattle.ids.specs.declared.Place.{Place}
-use Rattle.ids.specs.declared.Place.the-variants.{At, Nowhere}
-use Rattle.link.specs.declared.Completion.the-variants.{Ok, UnknownMessageType, ParameterError, ProcessingError}
+use Rattle.ids.specs.Places.{isHeld}
+use Rattle.ploam.specs.declared.Completion.the-variants.{Ok, UnknownMessageType, ParameterError, ProcessingError}
 use Rattle.link.specs.declared.Response.the-variants.{Registration}
 use Rattle.link.specs.Limits.{addedAllocs, mostOwed}
 use Rattle.station.specs.States.{holdsIdentity, stateNumber, o23, o5, o7}
@@ -33,14 +32,10 @@ use Rattle.effects.specs.declared.Debt.{Debt}
 use Rattle.effects.specs.declared.Debt.the-variants.{Free, Owes}
 use Rattle.effects.specs.declared.Effect.{Effect}
 use Rattle.effects.specs.Effects.{ignored, does, owes, answers}
-use Rattle.effects.specs.Ranging.{rangingTime}
+use Rattle.decisions.specs.Ranging.{rangingTime}
 
 abbrev pub sameSerial : SerialNumber → SerialNumber → Bool
 sameSerial a b = eqb (a .vendor) (b .vendor) && eqb (a .vssn) (b .vssn)
-
-abbrev pub found : Place → Bool
-found (At i) = true
-found Nowhere = false
 
 -- "Assign_ONU-ID, broadcast, own serial number, ID at most 1022, in O2-3: to O4"
 unfoldable pub assignOnuId : ℕ → Bool → Bool → OnuId → Effect
@@ -52,10 +47,10 @@ assignOnuId state broadcast own onu =
 -- error). Otherwise OK"
 abbrev pub allocChange : Allocs → ℕ → AllocId → AllocChange → Effect
 allocChange allocs seq id Assign =
-    cond (found (allocPlace allocs id)) (answers Keep Ok seq)
+    cond (isHeld (allocPlace allocs id)) (answers Keep Ok seq)
     (cond (leb addedAllocs (allocs .count)) (answers Keep ProcessingError seq) (answers (AddAlloc id) Ok seq))
 allocChange allocs seq id Deallocate =
-    cond (found (allocPlace allocs id)) (answers (RemoveAlloc id) Ok seq) (answers Keep ParameterError seq)
+    cond (isHeld (allocPlace allocs id)) (answers (RemoveAlloc id) Ok seq) (answers Keep ParameterError seq)
 allocChange allocs seq id OtherChange = answers Keep ParameterError seq
 
 unfoldable pub assignAllocId : ℕ → Bool → Allocs → ℕ → AllocId → AllocChange → Effect

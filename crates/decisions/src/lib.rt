@@ -2,67 +2,42 @@
 // each.
 ghost use mathlib.Core.Path.{_≡_};
 ghost use mathlib.Core.Bool.{Bool};
-ghost use Prim.Native.Nat.{_+_, _*_};
-ghost use Rattle.ploam.specs.Reading.{serialAt};
-ghost use Rattle.decisions.specs.Decisions.{sameSerial, found, assignOnuId, allocChange, assignAllocId};
+ghost use Rattle.decisions.specs.Decisions.{sameSerial, assignOnuId, allocChange, assignAllocId};
 ghost use Rattle.decisions.specs.Decisions.{requestRegistration, deactivate, switchOff, switchOn, switched, disable};
 ghost use Rattle.decisions.specs.Decisions.{unknownType, byContent, fitting};
 ghost use Rattle.decisions.specs.Acts.{Decides};
+
+pub mod ranging;
+
 use effects::Change;
 use effects::Debt;
 use effects::Effect;
-use effects::O5;
-use effects::O7;
-use effects::O23;
 use effects::answers;
 use effects::does;
 use effects::ignored;
 use effects::owes;
-use effects::ranging;
 use ids::AllocId;
 use ids::OnuId;
-use ids::Place;
 use link::Allocs;
-use link::Completion;
 use link::Queue;
 use link::Response;
 use ploam::AllocChange;
+use ploam::Completion;
 use ploam::Content;
 use ploam::Message;
 use ploam::SerialNumber;
 use ploam::Switch;
+use ploam::reading::serial_number;
 use station::Activation;
+use station::O5;
+use station::O7;
+use station::O23;
 use station::Station;
-
-fn join(a: u8, b: u8, c: u8, d: u8) -> u32
-    ensures { λ r. ⌜ r ≡ (a * 256 + b) * 65536 + (c * 256 + d) ⌝ }
-{
-    (a as u32 * 256 + b as u32) * 65536 + (c as u32 * 256 + d as u32)
-}
-
-// The station's own serial number as a message gives one.
-fn own_serial(octets: [u8; 8]) -> SerialNumber
-    ensures { λ r. ⌜ r ≡ serialAt octets 0 ⌝ }
-{
-    SerialNumber {
-        vendor: join(octets[0], octets[1], octets[2], octets[3]),
-        vssn: join(octets[4], octets[5], octets[6], octets[7]),
-    }
-}
 
 fn same_serial(a: SerialNumber, b: SerialNumber) -> bool
     ensures { λ r. ⌜ r ≡ sameSerial a b ⌝ }
 {
     a.vendor == b.vendor && a.vssn == b.vssn
-}
-
-fn is_found(place: Place) -> bool
-    ensures { λ r. ⌜ r ≡ found place ⌝ }
-{
-    match place {
-        Place::At(_) => true,
-        Place::Nowhere => false,
-    }
 }
 
 fn assign_onu_id(state: u8, broadcast: bool, own: bool, onu: OnuId) -> Effect
@@ -86,7 +61,8 @@ fn assign_onu_id(state: u8, broadcast: bool, own: bool, onu: OnuId) -> Effect
 fn alloc_change(allocs: Allocs, seq: u8, id: AllocId, change: AllocChange) -> Effect
     ensures { λ r. ⌜ r ≡ allocChange allocs seq id change ⌝ }
 {
-    let held = is_found(allocs.place(id));
+    let place = allocs.place(id);
+    let held = place.is_held();
     match change {
         AllocChange::Assign => {
             if held {
@@ -228,7 +204,7 @@ fn by_content(s: Station, broadcast: bool, seq: u8, content: Content) -> Effect
             assign_onu_id(
                 state,
                 broadcast,
-                same_serial(own_serial(octets), serial),
+                same_serial(serial_number(octets), serial),
                 onu,
             )
         }
@@ -240,7 +216,7 @@ fn by_content(s: Station, broadcast: bool, seq: u8, content: Content) -> Effect
             disable(
                 a,
                 broadcast,
-                same_serial(own_serial(octets), serial),
+                same_serial(serial_number(octets), serial),
                 switch,
             )
         }

@@ -17,7 +17,7 @@ use Rattle.bch.specs.Code.{remainderFrom}
 use Rattle.flips.proofs.FlipRule.{flips}
 use Rattle.xgtc.specs.declared.hlend.Hlend.{Hlend}
 use Rattle.xgtc.specs.Layouts.{hlendOf}
-use Rattle.framing.specs.Reads.{fields, taken}
+use Rattle.xgem.specs.Reads.{fields, taken}
 use Rattle.xgtc.specs.Reads.{readHlend}
 use Rattle.ploam.specs.Layout.{messageOctets, coveredOctets, addressOf, typeOf}
 use Rattle.integrity.specs.Integrity.{covered, micOf, micRight, defaultKey, byDefault, installedKey, genuine}
@@ -30,7 +30,7 @@ use Rattle.station.specs.declared.Station.{Station}
 use Rattle.station.specs.declared.Activation.{Activation}
 use Rattle.station.specs.declared.Activation.the-variants.{Operation}
 use Rattle.link.specs.declared.Allocs.{Allocs}
-use Rattle.link.specs.declared.Completion.the-variants.{Ok}
+use Rattle.ploam.specs.declared.Completion.the-variants.{Ok}
 use Rattle.link.specs.declared.Owed.{Owed}
 use Rattle.link.specs.declared.Response.the-variants.{Acknowledgement}
 use Rattle.ports.specs.declared.Ports.{Ports}
@@ -39,16 +39,17 @@ use Rattle.ports.specs.Ports.{noPorts, clearManagement}
 use Rattle.timing.specs.Timing.{frameEnd}
 use Rattle.effects.specs.declared.Change.the-variants.{Range}
 use Rattle.effects.specs.Effects.{answers}
-use Rattle.effects.specs.Ranging.{rangingTime}
+use Rattle.decisions.specs.Ranging.{rangingTime}
 use Rattle.decisions.specs.Decisions.{assignOnuId, assignAllocId, isBroadcast, isOurs, effectOf}
 use Rattle.effects.specs.Changes.{identify, range, applied}
 use Rattle.decisions.specs.Acts.{act}
-use Rattle.activation.specs.Receiving.{acting, receive, messagesFrom, messagesIn, receiveAll}
-use Rattle.arrival.specs.Lengths.{lengthFits, enough, buffersFit}
-use Rattle.arrival.specs.Partitions.{messagesOf}
-use Rattle.arrival.specs.Frame.{plannedIn, repliesIn, payloadIn, sentBy, next, done, handled, frameLeft}
+use Rattle.messages.specs.Receiving.{acting, receive, messagesFrom, messagesIn, receiveAll}
+use Rattle.downstream.specs.Lengths.{lengthFits}
+use Rattle.frame.specs.Given.{enough}
+use Rattle.downstream.specs.Partitions.{messagesOf}
+use Rattle.frame.specs.Frame.{plannedIn, repliesIn, payloadIn, foundBy, next, done, handled, frameLeft}
 use Rattle.engine.specs.Answers.{lostIn, Handled}
-use Rattle.demands.proofs.RefutingRuns.{serial, registration, memory, buffers, lent, Leads, led, searching, searching-in-range}
+use Rattle.demands.proofs.RefutingRuns.{serial, registration, memory, buffers, lent, arrives, Leads, led, searching, searching-in-range}
 
 -- ---- a signed message acts
 
@@ -179,14 +180,14 @@ activating-long =
     let n = three-long (signed assignOnu) (signed rangingOf) (signed assignAlloc) (signed-length assignOnu refl) (signed-length rangingOf refl) (signed-length assignAlloc refl) in
     omega arith
 
-handled-activating : Handled searching activating 0 lent false (handled searching threeMessages activating 0 lent)
+handled-activating : Handled searching (arrives activating) lent false (handled searching threeMessages (arrives activating) lent)
 unfolding lostIn lengthFits enough memory buffers threeMessages
 handled-activating =
     record {
       passed = record {
         state = searching-in-range;
         frame = ap lengthFits activating-long;
-        buffers = ap (λ (n : ℕ). buffersFit n lent) activating-long;
+        buffers = ap (λ (n : ℕ). enough n (length (lent .memory)) (length (lent .plan)) (length (lent .replies)) (length (lent .deliveries))) activating-long;
       };
       hlend = threeMessages;
       reads = reads-activating;
@@ -195,13 +196,13 @@ handled-activating =
       leaves = refl;
     }
 
-activating-leaves : handled searching threeMessages activating 0 lent .outcome .station ≡ operating
-unfolding handled done sentBy next plannedIn repliesIn payloadIn threeMessages frameEnd
+activating-leaves : handled searching threeMessages (arrives activating) lent .outcome .station ≡ operating
+unfolding handled done foundBy next plannedIn repliesIn payloadIn threeMessages frameEnd
 activating-leaves = ap (λ (s : Station). frameEnd s false) received-activating
 
-activating-keeps : handled searching threeMessages activating 0 lent .lent .memory ≡ memory
+activating-keeps : handled searching threeMessages (arrives activating) lent .lent .memory ≡ memory
 unfolding handled done payloadIn
 activating-keeps = refl
 
-pub activated : Leads (frameLeft searching activating 0 lent) operating
+pub activated : Leads (frameLeft searching (arrives activating) lent) operating
 activated = led searching operating activating threeMessages handled-activating activating-leaves activating-keeps

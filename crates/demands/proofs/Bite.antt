@@ -11,35 +11,35 @@ use mathlib.Core.Bool.{true≢false}
 use mathlib.Core.List.{List, [], _∷_}
 use lib.ListN.{length, take}
 use Rattle.xgtc.specs.declared.hlend.Hlend.{Hlend}
-use Rattle.framing.specs.Reads.{Found, fields, unreadable, short}
+use Rattle.xgem.specs.Reads.{Found, fields, unreadable, short}
 use Rattle.xgtc.specs.Reads.{readHlend}
 use Rattle.station.specs.declared.answers.Answer.the-variants.{Done, StateOutOfRange, DelineationLost}
 use Rattle.station.specs.declared.Station.{Station}
 use Rattle.station.specs.Station.{powerOn}
 use Rattle.series.specs.Series.{Series}
 use Rattle.plan.specs.Records.{headFlags, burstFlags}
-use Rattle.bwmap.specs.Plan.{records, seriesNumbers, written}
-use Rattle.bwmap.specs.Laser.{Sending, opens, granted, sending, laser}
-use Rattle.conduct.proofs.InRange.{sound-in-range, power-on-sound}
+use Rattle.plan.specs.Plan.{records, seriesNumbers, written}
+use Rattle.plan.specs.Laser.{Sending, opens, granted, sending, laser}
+use Rattle.invariants.proofs.InRange.{sound-in-range, power-on-sound}
 use Rattle.ledger.proofs.Runs.{ledger-exact}
 use Rattle.ledger.proofs.Plan.{always-ours}
-use Rattle.arrival.specs.Frame.{Left, plannedIn, done, handled, frameLeft}
-use Rattle.demands.specs.Runs.{Call, frame, lost, addPort, removePort, giveKey, Standing, start, runOf}
+use Rattle.frame.specs.Frame.{FrameLeft, plannedIn, done, handled, frameLeft}
+use Rattle.demands.specs.Runs.{Call, frame, lost, addPort, removePort, giveKey, Progress, start, runOf}
 use Rattle.demands.specs.Demand1.{Demand1}
 use Rattle.demands.specs.Demand2.{Demand2}
-use Rattle.demands.specs.Demand3.{sent, burstsFrom, Demand3}
+use Rattle.demands.specs.Demand3.{sendings, burstsFrom, Demand3}
 use Rattle.demands.specs.Wrong.{counting, refusesAll, fixedPlan, writesNothing, writesNoHeader, firstBy, firstOnly, inventedCounts}
-use Rattle.demands.proofs.RefutingRuns.{serial, registration, fresh, memory, buffers, lent, Leads, bare, noEntries, reads-bare, searching, left-bare, bare-leads}
+use Rattle.demands.proofs.RefutingRuns.{serial, registration, fresh, memory, buffers, lent, arrives, Leads, bare, noEntries, reads-bare, searching, left-bare, bare-leads}
 use Rattle.demands.proofs.TwoGrants.{two, twoEntries, grantAt, seriesFrom, reads-two, left-two, answer-two, two-planned, sends-both}
 
 -- the first frame of a run is answered 1, though the state is in range
 pub refuses-all : Demand1 refusesAll → ⊥
 refuses-all d =
-    true≢false (sym (sound-in-range fresh (power-on-sound serial registration)) ∙ d .frame (runOf refusesAll serial registration memory [] .station) bare 0 lent .0)
+    true≢false (sym (sound-in-range fresh (power-on-sound serial registration)) ∙ d .frame (runOf refusesAll serial registration memory [] .station) (arrives bare) lent .0)
 
-refused-sends : (first : Station) (st : Standing) (calls : List Call) → burstsFrom refusesAll first st calls ≡ []
+refused-sends : (first : Station) (st : Progress) (calls : List Call) → burstsFrom refusesAll first st calls ≡ []
 refused-sends first st [] = refl
-refused-sends first st (frame f delay b ∷ l) = refused-sends first _ l
+refused-sends first st (frame a b ∷ l) = refused-sends first _ l
 refused-sends first st (lost ∷ l) = refused-sends first _ l
 refused-sends first st (addPort port ∷ l) = refused-sends first _ l
 refused-sends first st (removePort port ∷ l) = refused-sends first _ l
@@ -50,8 +50,8 @@ refuses-all-in-silence =
     record {
       ledger = λ serial registration memory calls. ledger-exact serial registration (runOf refusesAll serial registration memory calls .history);
       ours = λ serial registration memory calls. always-ours serial registration (runOf refusesAll serial registration memory calls .history);
-      plans = λ serial registration memory calls f delay b answered. absurd (neither answered);
-      silent = λ serial registration memory calls f delay b x y. refl;
+      plans = λ serial registration memory calls a b answered. absurd (neither answered);
+      silent = λ serial registration memory calls a b x y. refl;
       once = λ serial registration memory calls word.
           let e = refused-sends (powerOn serial registration) (start (powerOn serial registration) memory) calls in
           rw e (omega arith);
@@ -65,7 +65,7 @@ refuses-all-in-silence =
 pub fixed-plan : Demand3 fixedPlan → ⊥
 unfolding opens granted sending
 fixed-plan d =
-    true≢false (d .plans serial registration memory [] bare 0 buffers (inl (bare-leads .answer)) noEntries reads-bare .each .0 .sends)
+    true≢false (d .plans serial registration memory [] (arrives bare) buffers (inl (bare-leads .answer)) noEntries reads-bare .each .0 .sends)
 
 -- ---- the second frame
 
@@ -74,22 +74,22 @@ grants : List Sending → ℕ
 grants [] = 0
 grants (b ∷ l) = length (b .grants) + grants l
 
-this-done : frameLeft searching two 0 lent .outcome .answer ≡ Done
-this-done = ap (λ (x : Left). x .outcome .answer) (sym left-two) ∙ answer-two
+this-done : frameLeft searching (arrives two) lent .outcome .answer ≡ Done
+this-done = ap (λ (x : FrameLeft). x .outcome .answer) (sym left-two) ∙ answer-two
 
-records-two : frameLeft searching two 0 lent .outcome .records ≡ 2
+records-two : frameLeft searching (arrives two) lent .counts .records ≡ 2
 unfolding handled done seriesFrom
-records-two = ap (λ (x : Left). x .outcome .records) (sym left-two) ∙ ap records two-planned
+records-two = ap (λ (x : FrameLeft). x .counts .records) (sym left-two) ∙ ap records two-planned
 
-plan-two : frameLeft searching two 0 lent .lent .plan ≡ written (seriesFrom 0 ∷ seriesFrom 100 ∷ []) (buffers .plan)
+plan-two : frameLeft searching (arrives two) lent .lent .plan ≡ written (seriesFrom 0 ∷ seriesFrom 100 ∷ []) (buffers .plan)
 unfolding handled done
-plan-two = ap (λ (x : Left). x .lent .plan) (sym left-two) ∙ ap (λ (l : List Series). written l (buffers .plan)) two-planned
+plan-two = ap (λ (x : FrameLeft). x .lent .plan) (sym left-two) ∙ ap (λ (l : List Series). written l (buffers .plan)) two-planned
 
 -- the laser finds no head in the plan as it was lent
 pub writes-nothing : Demand3 writesNothing → ⊥
 unfolding buffers opens granted sending seriesFrom grantAt
 writes-nothing d =
-    let e = sends-both (λ s f delay l. record { outcome = frameLeft s f delay l .outcome; lent = l }) d (record { answer = bare-leads .answer; station = bare-leads .station; memory = refl }) this-done in
+    let e = sends-both (λ s a l. record { outcome = frameLeft s a l .outcome; counts = frameLeft s a l .counts; lent = l }) d (record { answer = bare-leads .answer; station = bare-leads .station; memory = refl }) this-done in
     let n : _≡_ {A = ℕ} 0 2 = ap (λ (k : ℕ). length (laser k (buffers .plan))) (sym records-two) ∙ ap length e in
     omega (arith, n)
 
@@ -97,23 +97,23 @@ writes-nothing d =
 pub invented-counts : Demand3 inventedCounts → ⊥
 unfolding buffers opens granted sending seriesFrom grantAt grants seriesNumbers headFlags burstFlags
 invented-counts d =
-    let e = sends-both (λ s f delay l. counting (frameLeft s f delay l .outcome .records + 1) (frameLeft s f delay l .lent .plan) (frameLeft s f delay l)) d (record { answer = bare-leads .answer; station = bare-leads .station; memory = bare-leads .memory }) this-done in
+    let e = sends-both (λ s a l. counting (frameLeft s a l .counts .records + 1) (frameLeft s a l .lent .plan) (frameLeft s a l)) d (record { answer = bare-leads .answer; station = bare-leads .station; memory = bare-leads .memory }) this-done in
     let n : _≡_ {A = ℕ} 3 2 = ap₂ (λ (k : ℕ) (p : List ℕ). grants (laser (k + 1) p)) (sym records-two) (sym plan-two) ∙ ap grants e in
     omega (arith, n)
 
-first-bare : firstBy (readHlend bare) fresh bare 0 lent ≡ handled fresh noEntries bare 0 lent
+first-bare : firstBy (readHlend bare) fresh (arrives bare) lent ≡ handled fresh noEntries (arrives bare) lent
 unfolding bare noEntries handled plannedIn
-first-bare = ap (λ (r : Found Hlend). firstBy r fresh bare 0 lent) reads-bare
+first-bare = ap (λ (r : Found Hlend). firstBy r fresh (arrives bare) lent) reads-bare
 
 -- the second series is neither planned nor left out for a fact
 pub first-only : Demand3 firstOnly → ⊥
 unfolding buffers opens granted sending seriesFrom grantAt seriesNumbers headFlags burstFlags handled done
 first-only d =
-    let goes : firstBy (readHlend two) searching two 0 lent ≡ firstBy (fields twoEntries) searching two 0 lent
-    = ap (λ (r : Found Hlend). firstBy r searching two 0 lent) reads-two in
-    let e = sends-both (λ s f delay l. firstBy (readHlend f) s f delay l) d (subst (λ (x : Left). Leads x searching) (sym (first-bare ∙ left-bare)) bare-leads) (ap (λ (x : Left). x .outcome .answer) goes ∙ answer-two) in
+    let goes : firstBy (readHlend two) searching (arrives two) lent ≡ firstBy (fields twoEntries) searching (arrives two) lent
+    = ap (λ (r : Found Hlend). firstBy r searching (arrives two) lent) reads-two in
+    let e = sends-both (λ s a l. firstBy (readHlend (a .octets)) s a l) d (subst (λ (x : FrameLeft). Leads x searching) (sym (first-bare ∙ left-bare)) bare-leads) (ap (λ (x : FrameLeft). x .outcome .answer) goes ∙ answer-two) in
     let n : _≡_ {A = ℕ} 1 2
-    = ap (λ (l : List Series). length (laser (records (take 1 l)) (written (take 1 l) (buffers .plan)))) (sym two-planned) ∙ ap (λ (x : Left). length (sent x)) (sym goes) ∙ ap length e in
+    = ap (λ (l : List Series). length (laser (records (take 1 l)) (written (take 1 l) (buffers .plan)))) (sym two-planned) ∙ ap (λ (x : FrameLeft). length (sendings x)) (sym goes) ∙ ap length e in
     omega (arith, n)
 
 -- ---- an engine that writes no header

@@ -23,7 +23,7 @@ use Rattle.effects.specs.declared.Effect.{Effect}
 use Rattle.decisions.specs.Decisions.{isOurs, effectOf, fitting}
 use Rattle.effects.specs.Changes.{identify, range, setDelay, applyChange, applyDebt, applied}
 use Rattle.decisions.specs.Acts.{act}
-use Rattle.activation.specs.Receiving.{acting, receive, receiveAll}
+use Rattle.messages.specs.Receiving.{acting, receive, receiveAll}
 use Rattle.host.specs.Host.{done, answerToAdd, answerToRemove, answerToKey, afterAdd, afterRemove, afterKey}
 
 changed : (s : Station) (c : Change) → applyChange s c .carried ≡ s .carried

@@ -17,7 +17,7 @@ use Rattle.flips.proofs.FlipRule.{flips}
 use Rattle.xgtc.specs.declared.allocation.Allocation.{Allocation}
 use Rattle.xgtc.specs.declared.hlend.Hlend.{Hlend}
 use Rattle.xgtc.specs.Layouts.{hlendOf, allocationOf}
-use Rattle.framing.specs.Reads.{Found, fields, taken}
+use Rattle.xgem.specs.Reads.{Found, fields, taken}
 use Rattle.xgtc.specs.Reads.{readHlend}
 use Rattle.station.specs.declared.Activation.the-variants.{Operation, Intermittent}
 use Rattle.station.specs.declared.Station.{Station}
@@ -26,27 +26,28 @@ use Rattle.link.specs.declared.Allocs.{Allocs}
 use Rattle.station.specs.Limits.{to2}
 use Rattle.link.specs.Link.{noAllocs}
 use Rattle.ports.specs.Ports.{noPorts}
-use Rattle.ranges.specs.Ranges.{inRange, identityFits, allocsFit, portsFit, partialsFit, slotFits, partialFits}
+use Rattle.validity.specs.Ranges.{inRange, identityFits, allocsFit, portsFit, partialsFit, slotFits, partialFits}
 use Rattle.timing.specs.Timing.{frameEnd, lostState, lostTime, silence}
 use Rattle.entries.specs.Standings.{standing, sorted, startUnfit, noRoom, continues, held}
-use Rattle.series.specs.Series.{Series, entryAt, standings, seriesOf, planned, wordsOf}
-use Rattle.bwmap.specs.Plan.{records, written}
+use Rattle.series.specs.Series.{Series, entryAt, standings, seriesOf, outset, planned, wordsOf}
+use Rattle.plan.specs.Plan.{records, written}
 use Rattle.bwmap.specs.Promises.{Account}
-use Rattle.bwmap.specs.Laser.{Sending, laser, burstsOf}
+use Rattle.plan.specs.Laser.{Sending, laser, burstsOf}
 use Rattle.ledger.specs.Events.{stationOf}
 use Rattle.ledger.specs.Events as event
-use Rattle.host.specs.declared.Outcome.{Outcome}
+use Rattle.station.specs.declared.answers.Outcome.{Outcome}
 use Rattle.payload.specs.Frames.{parse}
-use Rattle.arrival.specs.Lengths.{lengthFits, enough}
-use Rattle.arrival.specs.Partitions.{mapOf}
-use Rattle.arrival.specs.Frame.{Left, ownOf, plannedIn, repliesIn, payloadIn, sentBy, next, done, handled, frameLeft}
-use Rattle.engine.specs.Times.{lostLeft}
+use Rattle.downstream.specs.Lengths.{lengthFits}
+use Rattle.frame.specs.Given.{enough}
+use Rattle.downstream.specs.Partitions.{mapOf}
+use Rattle.frame.specs.Frame.{FrameLeft, ownOf, plannedIn, repliesIn, payloadIn, foundBy, next, done, handled, frameLeft}
+use Rattle.engine.specs.Lods.{lostLeft}
 use Rattle.engine.specs.Answers.{lostIn, Handled}
 use Rattle.engine.proofs.Table.{only}
-use Rattle.demands.specs.Runs.{Call, frame, lost, Standing, passes, after, start, runOf}
-use Rattle.demands.specs.Demand3.{sent, Demand3}
+use Rattle.demands.specs.Runs.{Call, frame, lost, Progress, passes, after, start, runOf}
+use Rattle.demands.specs.Demand3.{sendings, Demand3}
 use Rattle.demands.specs.Wrong.{forgetful, forgetsAllocs}
-use Rattle.demands.proofs.RefutingRuns.{serial, registration, fresh, memory, buffers, lent, Stands, begun, Leads, Asked, on, asked, next-planned, none-planned, bare, noEntries, led, bare-handled, searching, bare-leads}
+use Rattle.demands.proofs.RefutingRuns.{serial, registration, fresh, memory, buffers, lent, arrives, Stands, begun, Leads, Asked, on, asked, next-planned, none-planned, bare, noEntries, led, bare-handled, searching, bare-leads}
 use Rattle.demands.proofs.Activated.{activating, stationWith, given, operating, activated}
 
 -- ---- the states, with the Alloc-IDs that should be held and with none
@@ -81,8 +82,8 @@ module _ (allocs : Allocs) (fit : allocsFit allocs ≡ true) where
   resumed-in-range = rw fit
 
   -- the bare frame in O6
-  bare-resumes : Leads (frameLeft (interrupted allocs) bare 0 lent) (resumed allocs)
-  unfolding handled done sentBy next plannedIn repliesIn payloadIn bare noEntries frameEnd
+  bare-resumes : Leads (frameLeft (interrupted allocs) (arrives bare) lent) (resumed allocs)
+  unfolding handled done foundBy next plannedIn repliesIn payloadIn bare noEntries frameEnd
   bare-resumes = led (interrupted allocs) (resumed allocs) bare noEntries (bare-handled (interrupted allocs) interrupted-in-range) refl refl
 
 given-fit : allocsFit given ≡ true
@@ -95,7 +96,7 @@ none-fit = refl
 
 -- ---- the run: the station that the history leaves, and the engine's
 
-past : (st : Standing) → Stands st operating operating → Stands (after forgetsAllocs fresh st lost) (interrupted given) (interrupted noAllocs)
+past : (st : Progress) → Stands st operating operating → Stands (after forgetsAllocs fresh st lost) (interrupted given) (interrupted noAllocs)
 past st k =
     let e : lostLeft (st .station) ≡ record { answer = Done; station = interrupted given } = ap lostLeft (k .station) ∙ interrupting in
     record {
@@ -105,7 +106,7 @@ past st k =
     }
 
 calls : List Call
-calls = frame bare 0 buffers ∷ frame activating 0 buffers ∷ lost ∷ frame bare 0 buffers ∷ []
+calls = frame (arrives bare) buffers ∷ frame (arrives activating) buffers ∷ lost ∷ frame (arrives bare) buffers ∷ []
 
 reached : Stands (runOf forgetsAllocs serial registration memory calls) (resumed given) (resumed noAllocs)
 unfolding calls
@@ -139,11 +140,11 @@ granted : seriesOf (standings (ownOf (resumed given)) (mapOf oneEntry granting))
 unfolding granting oneEntry grant standing sorted startUnfit noRoom continues held
 granted = ap (λ (a : Found Allocation). seriesOf (standing (ownOf (resumed given)) a ∷ [])) entry
 
-foreign : plannedIn (resumed noAllocs) oneEntry granting ≡ []
+foreign : plannedIn (resumed noAllocs) oneEntry (arrives granting) ≡ []
 unfolding plannedIn granting oneEntry grant standing sorted startUnfit noRoom continues held
-foreign = ap (λ (a : Found Allocation). planned 0 0 (seriesOf (standing (ownOf (resumed noAllocs)) a ∷ []))) entry
+foreign = ap (λ (a : Found Allocation). planned (outset 0) (seriesOf (standing (ownOf (resumed noAllocs)) a ∷ []))) entry
 
-handled-granting : Handled (resumed noAllocs) granting 0 lent false (handled (resumed noAllocs) oneEntry granting 0 lent)
+handled-granting : Handled (resumed noAllocs) (arrives granting) lent false (handled (resumed noAllocs) oneEntry (arrives granting) lent)
 unfolding lengthFits enough memory buffers granting oneEntry lostIn parse
 handled-granting =
     record {
@@ -155,7 +156,7 @@ handled-granting =
       leaves = refl;
     }
 
-nothing-sent : sent (handled (resumed noAllocs) oneEntry granting 0 lent) ≡ []
+nothing-sent : sendings (handled (resumed noAllocs) oneEntry (arrives granting) lent) ≡ []
 unfolding handled done
 nothing-sent = ap (λ (l : List Series). laser (records l) (written l (lent .plan))) foreign
 
@@ -163,13 +164,13 @@ must-send : (bursts : List Sending) → Asked (resumed given) (mapOf oneEntry gr
 unfolding grant wordsOf
 must-send bursts o =
     let s : Series = record { head = grant; more = [] } in
-    let x = next-planned (omega arith) (omega arith) (omega arith) (subst (λ (l : List Series). Account 0 0 l (o .planned)) granted (o .account)) in
+    let x = next-planned (omega arith) (omega arith) (omega arith) (subst (λ (l : List Series). Account (outset 0) l (o .planned)) granted (o .account)) in
     o .are ∙ ap burstsOf (x .is ∙ ap (λ (l : List Series). s ∷ l) (none-planned (x .account)))
 
 pub forgets-allocs : Demand3 forgetsAllocs → ⊥
 forgets-allocs d =
-    let o = only (resumed noAllocs) granting 0 lent Done (handled (resumed noAllocs) oneEntry granting 0 lent) handled-granting in
-    let bursts = must-send (sent (frameLeft (resumed noAllocs) granting 0 lent))
-    (asked frameLeft (forgetsAllocs .lost) d calls (resumed given) (resumed noAllocs) reached granting oneEntry reads-granting (ap (λ (x : Left). x .outcome .answer) (sym (o .0)) ∙ o .1)) in
-    let n : _≡_ {A = ℕ} 0 1 = ap length (sym nothing-sent ∙ ap sent (o .0) ∙ bursts) in
+    let o = only (resumed noAllocs) (arrives granting) lent Done (handled (resumed noAllocs) oneEntry (arrives granting) lent) handled-granting in
+    let bursts = must-send (sendings (frameLeft (resumed noAllocs) (arrives granting) lent))
+    (asked frameLeft (forgetsAllocs .lost) d calls (resumed given) (resumed noAllocs) reached granting oneEntry reads-granting (ap (λ (x : FrameLeft). x .outcome .answer) (sym (o .0)) ∙ o .1)) in
+    let n : _≡_ {A = ℕ} 0 1 = ap length (sym nothing-sent ∙ ap sendings (o .0) ∙ bursts) in
     omega (arith, n)

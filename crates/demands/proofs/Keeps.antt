@@ -12,9 +12,9 @@ pub isolated : Isolated lingbarrow
 isolated = frames-isolated
 
 pub true-counts : TrueCounts lingbarrow
-true-counts serial registration memory calls f delay b =
+true-counts serial registration memory calls arrival b =
     let st = runOf lingbarrow serial registration memory calls in
-    frame-counted (st .station) f delay (lend st b) (always-kept serial registration memory calls .sound)
+    frame-counted (st .station) arrival (lend st b) (always-kept serial registration memory calls .sound)
 
 pub replies-kept : RepliesKept lingbarrow
 replies-kept = frame-replies-kept

@@ -9,34 +9,36 @@ use lib.ListN.{length}
 use borrow.Author.Tests.{leb-true, leb-false}
 use Rattle.ids.specs.Ids.{managementPort}
 use Rattle.xgtc.specs.declared.hlend.Hlend.{Hlend}
-use Rattle.framing.specs.Reads.{Found, fields, unreadable, short}
+use Rattle.xgem.specs.Reads.{Found, fields, unreadable, short}
 use Rattle.xgtc.specs.Reads.{readHlend}
-use Rattle.framing.specs.declared.octets.Written.the-variants.{Done as WriteDone, Refused}
-use Rattle.framing.specs.Octets.{octets}
-use Rattle.framing.specs.Layouts.{xgemFits, xgemWord}
+use Rattle.xgem.specs.declared.words.Written.the-variants.{Done as WriteDone, Refused as WriteRefused}
+use Rattle.octets.specs.Octets.{octets}
+use Rattle.xgem.specs.Layouts.{xgemFits, xgemWord}
 use Rattle.xgtc.specs.Layouts.{hlendFits, hlendWord, allocationFits, allocationWord}
-use Rattle.framing.specs.Writes as writing
-use Rattle.framing.specs.Writes.{put, wrote, carrying, xgemFrame}
+use Rattle.xgem.specs.Writes as writing
+use Rattle.xgem.specs.Writes.{put, wrote, carrying, xgemFrame}
 use Rattle.ids.specs.declared.PortId.{PortId}
 use Rattle.ids.specs.Ids.{assignablePort}
 use Rattle.station.specs.declared.answers.Answer.{Answer}
 use Rattle.station.specs.declared.Station.{Station}
 use Rattle.station.specs.declared.answers.Answer.the-variants.{Done, StateOutOfRange, FrameLengthUnfit, HeaderTooLong, DelineationLost, PortOutOfRange, PortHeldOrNotHeld, SlotsTaken, KeyRefused}
-use Rattle.station.specs.States.{holdsIdentity}
+use Rattle.station.specs.States.{holdsIdentity, isOperating}
 use Rattle.link.specs.Link.{withKey, installed}
 use Rattle.ports.specs.Ports.{portPlace, vacancy, addPort, removePort}
 use Rattle.station.specs.Station.{withLink, withPorts}
-use Rattle.ranges.specs.Ranges.{inRange}
+use Rattle.validity.specs.Ranges.{inRange}
 use Rattle.timing.specs.Timing.{lostTime}
-use Rattle.host.specs.declared.Outcome.{Outcome}
-use Rattle.host.specs.Host.{found, outcome, answerToAdd, answerToRemove, answerToKey, afterAdd, afterRemove, afterKey}
+use Rattle.station.specs.declared.answers.Outcome.{Outcome}
+use Rattle.ids.specs.Places.{isHeld}
+use Rattle.host.specs.Host.{outcome, answerToAdd, answerToRemove, answerToKey, afterAdd, afterRemove, afterKey}
 use Rattle.payload.specs.Frames.{parse}
 use Rattle.stretches.specs.Stretch.{stretchOf}
-use Rattle.arrival.specs.Lengths.{lengthFits}
-use Rattle.arrival.specs.Partitions.{headerEnd, payloadOf}
-use Rattle.arrival.specs.Frame.{isOperating}
-use Rattle.engine.specs.Times.{lostLeft}
-use Rattle.engine.specs.declared.alone.StretchPlace.{StretchPlace}
+use Rattle.downstream.specs.declared.Opening.the-variants.{Refused, Unread, Opened}
+use Rattle.downstream.specs.Lengths.{lengthFits}
+use Rattle.downstream.specs.Opening.{byHlend, opening}
+use Rattle.downstream.specs.Partitions.{headerEnd, payloadOf}
+use Rattle.engine.specs.Lods.{lostLeft}
+use Rattle.engine.specs.declared.stretching.StretchPlace.{StretchPlace}
 use Rattle.engine.specs.Stretch.{empty, answerIf, inFrame, placeIn, placeBy, stretchPlace}
 use Rattle.engine.proofs.Table.{table, not-short}
 use Rattle.demands.specs.Engine.{lingbarrow}
@@ -54,10 +56,10 @@ lost-row s = go (inRange s) refl
 
 add-row : (s : Station) (port : PortId) → AddRow s port (afterAdd s port .answer) (afterAdd s port .station)
 unfolding afterAdd answerToAdd
-add-row s port = go (inRange s) refl (assignablePort port) refl (found (portPlace (s .ports) port)) refl (found (vacancy (s .ports))) refl
+add-row s port = go (inRange s) refl (assignablePort port) refl (isHeld (portPlace (s .ports) port)) refl (isHeld (vacancy (s .ports))) refl
   where
     go
-        : (a : Bool) → inRange s ≡ a → (b : Bool) → assignablePort port ≡ b → (c : Bool) → found (portPlace (s .ports) port) ≡ c → (d : Bool) → found (vacancy (s .ports)) ≡ d
+        : (a : Bool) → inRange s ≡ a → (b : Bool) → assignablePort port ≡ b → (c : Bool) → isHeld (portPlace (s .ports) port) ≡ c → (d : Bool) → isHeld (vacancy (s .ports)) ≡ d
         → let o = outcome (cond (not a) StateOutOfRange (cond (not b) PortOutOfRange (cond c PortHeldOrNotHeld (cond d Done SlotsTaken)))) s (withPorts s (addPort (s .ports) port)) in
         AddRow s port (o .answer) (o .station)
     go false p b q c r d t = (p, refl)
@@ -68,10 +70,10 @@ add-row s port = go (inRange s) refl (assignablePort port) refl (found (portPlac
 
 remove-row : (s : Station) (port : PortId) → RemoveRow s port (afterRemove s port .answer) (afterRemove s port .station)
 unfolding afterRemove answerToRemove
-remove-row s port = go (inRange s) refl (assignablePort port) refl (found (portPlace (s .ports) port)) refl
+remove-row s port = go (inRange s) refl (assignablePort port) refl (isHeld (portPlace (s .ports) port)) refl
   where
     go
-        : (a : Bool) → inRange s ≡ a → (b : Bool) → assignablePort port ≡ b → (c : Bool) → found (portPlace (s .ports) port) ≡ c
+        : (a : Bool) → inRange s ≡ a → (b : Bool) → assignablePort port ≡ b → (c : Bool) → isHeld (portPlace (s .ports) port) ≡ c
         → let o = outcome (cond (not a) StateOutOfRange (cond (not b) PortOutOfRange (cond c Done PortHeldOrNotHeld))) s (withPorts s (removePort (s .ports) port)) in
         RemoveRow s port (o .answer) (o .station)
     go false p b q c r = (p, refl)
@@ -120,22 +122,22 @@ module _ (s : Station) (f : List ℕ) (k : ℕ) where
       go true q = whole true q
       go false q = whole false q
 
-  by-hlend : inRange s ≡ true → lengthFits (length f) ≡ true → (r : Found Hlend) → readHlend f ≡ r → StretchRowed (placeBy r s f k)
+  by-hlend : inRange s ≡ true → lengthFits (length f) ≡ true → (r : Found Hlend) → readHlend f ≡ r → StretchRowed (placeBy (byHlend r (length f)) s f k)
   by-hlend a b unreadable e = (a, b, e, refl)
   by-hlend a b short e = absurd (not-short f b e)
   by-hlend a b (fields h) e = go (leb (headerEnd h) (length f)) refl
     where
-      go : (c : Bool) → leb (headerEnd h) (length f) ≡ c → StretchRowed (cond c (placeIn s h f k) (empty HeaderTooLong))
+      go : (c : Bool) → leb (headerEnd h) (length f) ≡ c → StretchRowed (placeBy (cond c (Opened h) (Unread HeaderTooLong)) s f k)
       go true q = placed-row a b h e (leb-true (headerEnd h) (length f) q)
       go false q = record { state = a; frame = b; hlend = h; reads = e; longer = leb-false (headerEnd h) (length f) q; place = refl }
 
   stretch-row : StretchRowed (stretchPlace s f k)
-  unfolding stretchPlace
+  unfolding stretchPlace opening
   stretch-row = go (inRange s) refl (lengthFits (length f)) refl
     where
       go
           : (a : Bool) → inRange s ≡ a → (b : Bool) → lengthFits (length f) ≡ b
-          → StretchRowed (cond (not a) (empty StateOutOfRange) (cond (not b) (empty FrameLengthUnfit) (placeBy (readHlend f) s f k)))
+          → StretchRowed (placeBy (cond (not a) (Refused StateOutOfRange) (cond (not b) (Refused FrameLengthUnfit) (byHlend (readHlend f) (length f)))) s f k)
       go false p b q = (p, refl)
       go true p false q = (p, q, refl)
       go true p true q = by-hlend p q (readHlend f) refl
@@ -147,7 +149,7 @@ write-row fit octets t = go fit refl (leb (length octets) (length t)) refl
   where
     go
         : (a : Bool) → fit ≡ a → (b : Bool) → leb (length octets) (length t) ≡ b
-        → let o = cond {A = writing.Left} (a && b) (record { answer = WriteDone; target = put t octets }) (record { answer = Refused; target = t }) in
+        → let o = cond {A = writing.WriteLeft} (a && b) (record { answer = WriteDone; target = put t octets }) (record { answer = WriteRefused; target = t }) in
         WriteRow fit octets t (o .answer) (o .target)
     go true p true q = (p, q, refl)
     go true p false q = (rw (p, q), refl)

@@ -4,7 +4,7 @@ use Prim.Native.Nat.{ℕ}
 use mathlib.Core.Path.{_≡_, _∙_, refl, ap}
 use mathlib.Core.Bool.{Bool, true, false, cond}
 use mathlib.Core.List.{List}
-use Rattle.framing.proofs.RoundTrips.{xgem-written-read, frame-written-read}
+use Rattle.xgem.proofs.RoundTrips.{xgem-written-read, frame-written-read}
 use Rattle.xgtc.proofs.RoundTrips.{hlend-written-read, allocation-written-read}
 use Rattle.ploam.specs.Reading.{received}
 use Rattle.integrity.specs.Integrity.{installedKey, genuine}
@@ -12,12 +12,12 @@ use Rattle.ploam.specs.declared.Message.{Message}
 use Rattle.ploam.specs.declared.Received.{Received}
 use Rattle.ploam.specs.declared.Received.the-variants.{Whole, Short}
 use Rattle.integrity.proofs.Signed.{signed-right}
-use Rattle.upstream.proofs.RoundTrip.{round-trip}
+use Rattle.ploamu.proofs.RoundTrip.{round-trip}
 use Rattle.station.specs.declared.Station.{Station}
 use Rattle.decisions.specs.Decisions.{isOurs, effectOf, fitting}
 use Rattle.effects.specs.Changes.{applied}
 use Rattle.decisions.specs.Acts.{act}
-use Rattle.activation.specs.Receiving.{acting, receive}
+use Rattle.messages.specs.Receiving.{acting, receive}
 use Rattle.demands.specs.Engine.{lingbarrow}
 use Rattle.demands.specs.Demand2.{Demand2}
 use Rattle.demands.proofs.HeaderFact.{header-fact}

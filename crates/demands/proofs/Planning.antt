@@ -3,31 +3,27 @@
 use Prim.Native.Nat.{ℕ, _+_}
 use mathlib.Core.Path.{_≡_, _∙_, refl, sym, ap, subst}
 use mathlib.Core.Logic.{_⊎_, inl, inr}
-use mathlib.Core.Bool.{Bool, true, false, cond}
+use mathlib.Core.Bool.{Bool, true, false}
 use mathlib.Core.List.{List, [], _∷_}
 use Rattle.xgtc.specs.declared.allocation.Allocation.{Allocation}
 use Rattle.xgtc.specs.declared.hlend.Hlend.{Hlend}
-use Rattle.framing.specs.Reads.{Found, fields, unreadable, short}
+use Rattle.xgem.specs.Reads.{Found, fields, unreadable, short}
 use Rattle.xgtc.specs.Reads.{readHlend}
 use Rattle.station.specs.declared.Station.{Station}
 use Rattle.station.specs.declared.answers.Answer.{Answer}
 use Rattle.station.specs.declared.answers.Answer.the-variants.{Done, StateOutOfRange, FrameLengthUnfit, BufferTooShort, HlendUnreadable, HeaderTooLong, DelineationLost, PortOutOfRange, PortHeldOrNotHeld, SlotsTaken, KeyRefused, NotWritten}
-use Rattle.station.specs.States.{holdsIdentity}
-use Rattle.entries.specs.Standings.{Mine}
 use Rattle.series.specs.Series.{Series, entryAt, plannedOf}
-use Rattle.bwmap.specs.Plan.{records, written}
 use Rattle.bwmap.specs.Promises.{Follow, SeriesIn, Every}
-use Rattle.bwmap.specs.Laser.{Sending, laser, burstOf, burstsOf}
+use Rattle.plan.specs.Laser.{burstOf, burstsOf}
 use Rattle.bwmap.proofs.Kept.{planned-ours, every-series-accounted}
-use Rattle.bwmap.proofs.ReadBack.{laser-obeys}
+use Rattle.plan.proofs.ReadBack.{laser-obeys}
 use Rattle.ledger.specs.Events.{Event, stationOf}
-use Rattle.ledger.specs.Plan.{ownAt, Listed, Discovery, NumberOf}
-use Rattle.arrival.specs.Lengths.{Lent}
-use Rattle.arrival.specs.Partitions.{mapOf}
-use Rattle.arrival.specs.Frame.{Left, plannedIn, done, handled, frameLeft}
+use Rattle.ledger.specs.Plan.{ownAt, NumberOf}
+use Rattle.frame.specs.Given.{Arrival, Lent}
+use Rattle.downstream.specs.Partitions.{mapOf}
+use Rattle.frame.specs.Frame.{FrameLeft, plannedIn, done, handled}
 use Rattle.engine.specs.Answers.{Handled, Row}
-use Rattle.engine.proofs.Table.{table}
-use Rattle.demands.specs.Demand3.{sent, Numbered, Planned, AllPlanned, Obeys}
+use Rattle.demands.specs.Demand3.{sendings, Numbered, Planned, AllPlanned, Obeys}
 
 -- ---- the series of ours, number by number
 
@@ -57,18 +53,18 @@ hlendIn (fields h) other = h
 hlendIn unreadable other = other
 hlendIn short other = other
 
-module _ (first : Station) (h : List Event) (f : List ℕ) (delay : ℕ) (lent : Lent) (hl : Hlend) (e : readHlend f ≡ fields hl) where
+module _ (first : Station) (h : List Event) (arrival : Arrival) (lent : Lent) (hl : Hlend) (e : readHlend (arrival .octets) ≡ fields hl) where
   -- what the laser sends is what was planned
-  handled-sent : sent (handled (stationOf first h) hl f delay lent) ≡ burstsOf (plannedOf (ownAt first h) (mapOf hl f) (stationOf first h .carried))
+  handled-sent : sendings (handled (stationOf first h) hl arrival lent) ≡ burstsOf (plannedOf (ownAt first h) (mapOf hl (arrival .octets)) (stationOf first h .carried))
   unfolding handled done plannedIn
-  handled-sent = laser-obeys (ownAt first h) (mapOf hl f) (stationOf first h .carried) (lent .plan)
+  handled-sent = laser-obeys (plannedOf (ownAt first h) (mapOf hl (arrival .octets)) (stationOf first h .carried)) (lent .plan)
 
-  handled-obeys : NumberOf first h → (left : Left) → left ≡ handled (stationOf first h) hl f delay lent → Obeys first h (mapOf hl f) (stationOf first h .carried) (sent left)
+  handled-obeys : NumberOf first h → (left : FrameLeft) → left ≡ handled (stationOf first h) hl arrival lent → Obeys first h (mapOf hl (arrival .octets)) (stationOf first h .carried) (sendings left)
   handled-obeys n left q =
       let own = ownAt first h in
-      let m = mapOf hl f in
+      let m = mapOf hl (arrival .octets) in
       let l = plannedOf own m (stationOf first h .carried) in
-      let are : sent left ≡ burstsOf l = ap sent q ∙ handled-sent in
+      let are : sendings left ≡ burstsOf l = ap sendings q ∙ handled-sent in
       record {
         each = subst (AllPlanned first h m) (sym are) (all-planned first h m n l (planned-ours own m (stationOf first h .carried)));
         planned = l;
@@ -76,32 +72,32 @@ module _ (first : Station) (h : List Event) (f : List ℕ) (delay : ℕ) (lent :
         account = every-series-accounted own m (stationOf first h .carried);
       }
 
-  by-handled : NumberOf first h → (b : Bool) (left : Left) → Handled (stationOf first h) f delay lent b left → Obeys first h (mapOf hl f) (stationOf first h .carried) (sent left)
+  by-handled : NumberOf first h → (b : Bool) (left : FrameLeft) → Handled (stationOf first h) arrival lent b left → Obeys first h (mapOf hl (arrival .octets)) (stationOf first h .carried) (sendings left)
   unfolding hlendIn
   by-handled n b left r =
       let one : r .hlend ≡ hl = ap (λ (x : Found Hlend). hlendIn x hl) (sym (r .reads) ∙ e) in
-      handled-obeys n left (r .leaves ∙ ap (λ (x : Hlend). handled (stationOf first h) x f delay lent) one)
+      handled-obeys n left (r .leaves ∙ ap (λ (x : Hlend). handled (stationOf first h) x arrival lent) one)
 
   pub obeys
-      : NumberOf first h → (a : Answer) (left : Left) → Row (stationOf first h) f delay lent a left → (a ≡ Done) ⊎ (a ≡ DelineationLost)
-      → Obeys first h (mapOf hl f) (stationOf first h .carried) (sent left)
-  obeys n a left r (inl q) = by-handled n false left (subst (λ (x : Answer). Row (stationOf first h) f delay lent x left) q r)
-  obeys n a left r (inr q) = by-handled n true left (subst (λ (x : Answer). Row (stationOf first h) f delay lent x left) q r)
+      : NumberOf first h → (a : Answer) (left : FrameLeft) → Row (stationOf first h) arrival lent a left → (a ≡ Done) ⊎ (a ≡ DelineationLost)
+      → Obeys first h (mapOf hl (arrival .octets)) (stationOf first h .carried) (sendings left)
+  obeys n a left r (inl q) = by-handled n false left (subst (λ (x : Answer). Row (stationOf first h) arrival lent x left) q r)
+  obeys n a left r (inr q) = by-handled n true left (subst (λ (x : Answer). Row (stationOf first h) arrival lent x left) q r)
 
 -- ---- nothing is sent after another answer
 
 pub nothing-sent
-    : (s : Station) (f : List ℕ) (delay : ℕ) (lent : Lent) (a : Answer) (left : Left) → Row s f delay lent a left → (a ≡ Done → ⊥) → (a ≡ DelineationLost → ⊥)
-    → sent left ≡ []
-nothing-sent s f delay lent Done left r x y = absurd (x refl)
-nothing-sent s f delay lent StateOutOfRange left (p, e) x y = ap sent e
-nothing-sent s f delay lent FrameLengthUnfit left (p, q, e) x y = ap sent e
-nothing-sent s f delay lent BufferTooShort left (p, q, r, e) x y = ap sent e
-nothing-sent s f delay lent HlendUnreadable left (p, q, e) x y = ap sent e
-nothing-sent s f delay lent HeaderTooLong left (t, e) x y = ap sent e
-nothing-sent s f delay lent DelineationLost left r x y = absurd (y refl)
-nothing-sent s f delay lent PortOutOfRange left r x y = absurd r
-nothing-sent s f delay lent PortHeldOrNotHeld left r x y = absurd r
-nothing-sent s f delay lent SlotsTaken left r x y = absurd r
-nothing-sent s f delay lent KeyRefused left r x y = absurd r
-nothing-sent s f delay lent NotWritten left r x y = absurd r
+    : (s : Station) (arrival : Arrival) (lent : Lent) (a : Answer) (left : FrameLeft) → Row s arrival lent a left → (a ≡ Done → ⊥) → (a ≡ DelineationLost → ⊥)
+    → sendings left ≡ []
+nothing-sent s arrival lent Done left r x y = absurd (x refl)
+nothing-sent s arrival lent StateOutOfRange left (p, e) x y = ap sendings e
+nothing-sent s arrival lent FrameLengthUnfit left (p, q, e) x y = ap sendings e
+nothing-sent s arrival lent BufferTooShort left (p, q, r, e) x y = ap sendings e
+nothing-sent s arrival lent HlendUnreadable left (p, q, e) x y = ap sendings e
+nothing-sent s arrival lent HeaderTooLong left (t, e) x y = ap sendings e
+nothing-sent s arrival lent DelineationLost left r x y = absurd (y refl)
+nothing-sent s arrival lent PortOutOfRange left r x y = absurd r
+nothing-sent s arrival lent PortHeldOrNotHeld left r x y = absurd r
+nothing-sent s arrival lent SlotsTaken left r x y = absurd r
+nothing-sent s arrival lent KeyRefused left r x y = absurd r
+nothing-sent s arrival lent NotWritten left r x y = absurd r

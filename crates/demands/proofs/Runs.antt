@@ -2,62 +2,62 @@
 -- Assumes nothing.
 use Prim.Native.Nat.{ℕ}
 use mathlib.Core.Path.{_≡_, _∙_, refl, sym, ap, subst}
-use mathlib.Core.Bool.{Bool, true, false, not, cond}
+use mathlib.Core.Bool.{Bool, true, false}
 use mathlib.Core.List.{List, [], _∷_}
-use Rattle.ids.specs.declared.PortId.{PortId}
 use Rattle.xgtc.specs.declared.hlend.Hlend.{Hlend}
-use Rattle.framing.specs.Reads.{Found, fields}
+use Rattle.xgem.specs.Reads.{Found, fields}
 use Rattle.xgtc.specs.Reads.{readHlend}
 use Rattle.station.specs.declared.Station.{Station}
 use Rattle.station.specs.declared.answers.Answer.{Answer}
 use Rattle.station.specs.declared.answers.Answer.the-variants.{Done, StateOutOfRange, FrameLengthUnfit, BufferTooShort, HlendUnreadable, HeaderTooLong, DelineationLost, PortOutOfRange, PortHeldOrNotHeld, SlotsTaken, KeyRefused, NotWritten}
 use Rattle.station.specs.Station.{powerOn}
-use Rattle.ranges.specs.Ranges.{inRange}
+use Rattle.validity.specs.Ranges.{inRange}
 use Rattle.timing.specs.Timing.{lostTime}
-use Rattle.activation.specs.Receiving.{messagesIn}
+use Rattle.messages.specs.Receiving.{messagesIn}
 use Rattle.series.specs.Series.{lastEnd, carriedOver}
-use Rattle.bwmap.specs.Plan.{messages}
-use Rattle.conduct.proofs.InRange.{Sound, sound-in-range, power-on-sound}
-use Rattle.conduct.proofs.InRangeHost.{add-sound, remove-sound, key-sound}
+use Rattle.plan.specs.Plan.{messages}
+use Rattle.invariants.proofs.InRange.{Sound, sound-in-range, power-on-sound}
+use Rattle.invariants.proofs.InRangeHost.{add-sound, remove-sound, key-sound}
 use Rattle.ledger.specs.Events.{Event, stationOf}
 use Rattle.ledger.proofs.Frames.{frame-left}
-use Rattle.arrival.specs.Lengths.{Lent}
-use Rattle.arrival.specs.Partitions.{messagesOf}
-use Rattle.arrival.specs.Frame.{Left, isRanging, plannedIn, repliesIn, payloadIn, sentBy, next, done, handled, frameLeft}
-use Rattle.engine.specs.Times.{lostLeft}
+use Rattle.frame.specs.Given.{Arrival, Lent}
+use Rattle.downstream.specs.Partitions.{messagesOf}
+use Rattle.station.specs.States.{isRanging}
+use Rattle.frame.specs.Frame.{FrameLeft, plannedIn, repliesIn, payloadIn, foundBy, next, done, handled, frameLeft}
+use Rattle.engine.specs.Lods.{lostLeft}
 use Rattle.engine.specs.Answers.{Handled, Row}
 use Rattle.engine.proofs.Ranged.{frame-sound, lost-call-sound}
 use Rattle.engine.proofs.Table.{table}
-use Rattle.demands.specs.Engine.{Engine, lingbarrow}
-use Rattle.demands.specs.Runs.{Call, frame, lost, addPort, removePort, giveKey, Buffers, Standing, lend, passes, arrived, befell, after, run, start, runOf}
+use Rattle.demands.specs.Engine.{lingbarrow}
+use Rattle.demands.specs.Runs.{Call, frame, lost, addPort, removePort, giveKey, Progress, lend, arrived, befell, after, run, start, runOf}
 
-pub record Kept (first : Station) (st : Standing) : Type 0 where
+pub record Kept (first : Station) (st : Progress) : Type 0 where
   pub same : stationOf first (st .history) ≡ st .station
   pub sound : Sound (st .station)
 
 -- ---- a frame leaves the station that its events leave
 
-module _ (first : Station) (h : List Event) (f : List ℕ) (delay : ℕ) (lent : Lent) where
-  handled-left : (hl : Hlend) → stationOf first (arrived (fields hl) (stationOf first h) f lent h) ≡ handled (stationOf first h) hl f delay lent .outcome .station
-  unfolding handled done sentBy next plannedIn repliesIn
+module _ (first : Station) (h : List Event) (arrival : Arrival) (lent : Lent) where
+  handled-left : (hl : Hlend) → stationOf first (arrived (fields hl) (stationOf first h) arrival lent h) ≡ handled (stationOf first h) hl arrival lent .outcome .station
+  unfolding handled done foundBy next plannedIn repliesIn
   handled-left hl =
-      frame-left first h (messages (plannedIn (stationOf first h) hl f)) (payloadIn (stationOf first h) hl f lent .receiver .ports)
-      (carriedOver (lastEnd (stationOf first h .carried) (plannedIn (stationOf first h) hl f))) (messagesIn (messagesOf hl f)) (isRanging (stationOf first h .activation)) delay (lent .replies) 0
+      frame-left first h (messages (plannedIn (stationOf first h) hl arrival)) (payloadIn (stationOf first h) hl arrival lent .receiver .ports)
+      (carriedOver (lastEnd (stationOf first h .carried) (plannedIn (stationOf first h) hl arrival))) (messagesIn (messagesOf hl (arrival .octets))) (isRanging (stationOf first h .activation)) (arrival .randomDelay) (lent .replies) 0
 
-  answered : (b : Bool) (left : Left) → Handled (stationOf first h) f delay lent b left
-      → stationOf first (arrived (readHlend f) (stationOf first h) f lent h) ≡ left .outcome .station
+  answered : (b : Bool) (left : FrameLeft) → Handled (stationOf first h) arrival lent b left
+      → stationOf first (arrived (readHlend (arrival .octets)) (stationOf first h) arrival lent h) ≡ left .outcome .station
   answered b left r =
-      ap (λ (x : Found Hlend). stationOf first (arrived x (stationOf first h) f lent h)) (r .reads)
-      ∙ handled-left (r .hlend) ∙ sym (ap (λ (x : Left). x .outcome .station) (r .leaves))
+      ap (λ (x : Found Hlend). stationOf first (arrived x (stationOf first h) arrival lent h)) (r .reads)
+      ∙ handled-left (r .hlend) ∙ sym (ap (λ (x : FrameLeft). x .outcome .station) (r .leaves))
 
-  by-row : (a : Answer) (left : Left) → Row (stationOf first h) f delay lent a left
-      → stationOf first (befell a (stationOf first h) f lent h) ≡ left .outcome .station
+  by-row : (a : Answer) (left : FrameLeft) → Row (stationOf first h) arrival lent a left
+      → stationOf first (befell a (stationOf first h) arrival lent h) ≡ left .outcome .station
   by-row Done left r = answered false left r
-  by-row StateOutOfRange left (p, e) = sym (ap (λ (x : Left). x .outcome .station) e)
-  by-row FrameLengthUnfit left (p, q, e) = sym (ap (λ (x : Left). x .outcome .station) e)
-  by-row BufferTooShort left (p, q, r, e) = sym (ap (λ (x : Left). x .outcome .station) e)
-  by-row HlendUnreadable left (p, q, e) = sym (ap (λ (x : Left). x .outcome .station) e)
-  by-row HeaderTooLong left (t, e) = sym (ap (λ (x : Left). x .outcome .station) e)
+  by-row StateOutOfRange left (p, e) = sym (ap (λ (x : FrameLeft). x .outcome .station) e)
+  by-row FrameLengthUnfit left (p, q, e) = sym (ap (λ (x : FrameLeft). x .outcome .station) e)
+  by-row BufferTooShort left (p, q, r, e) = sym (ap (λ (x : FrameLeft). x .outcome .station) e)
+  by-row HlendUnreadable left (p, q, e) = sym (ap (λ (x : FrameLeft). x .outcome .station) e)
+  by-row HeaderTooLong left (t, e) = sym (ap (λ (x : FrameLeft). x .outcome .station) e)
   by-row DelineationLost left r = answered true left r
   by-row PortOutOfRange left r = absurd r
   by-row PortHeldOrNotHeld left r = absurd r
@@ -66,9 +66,9 @@ module _ (first : Station) (h : List Event) (f : List ℕ) (delay : ℕ) (lent :
   by-row NotWritten left r = absurd r
 
   pub frame-history
-      : stationOf first (befell (frameLeft (stationOf first h) f delay lent .outcome .answer) (stationOf first h) f lent h)
-      ≡ frameLeft (stationOf first h) f delay lent .outcome .station
-  frame-history = by-row (frameLeft (stationOf first h) f delay lent .outcome .answer) (frameLeft (stationOf first h) f delay lent) (table (stationOf first h) f delay lent)
+      : stationOf first (befell (frameLeft (stationOf first h) arrival lent .outcome .answer) (stationOf first h) arrival lent h)
+      ≡ frameLeft (stationOf first h) arrival lent .outcome .station
+  frame-history = by-row (frameLeft (stationOf first h) arrival lent .outcome .answer) (frameLeft (stationOf first h) arrival lent) (table (stationOf first h) arrival lent)
 
 -- ---- every call
 
@@ -76,13 +76,13 @@ pub lost-history : (s : Station) → Sound s → lostLeft s ≡ record { answer 
 unfolding lostLeft
 lost-history s k = rw (sound-in-range s k)
 
-pub call-kept : (first : Station) (st : Standing) (c : Call) → Kept first st → Kept first (after lingbarrow first st c)
-call-kept first st (frame f delay b) k =
+pub call-kept : (first : Station) (st : Progress) (c : Call) → Kept first st → Kept first (after lingbarrow first st c)
+call-kept first st (frame arrival b) k =
     record {
       same = subst
-          (λ (s : Station). stationOf first (befell (frameLeft s f delay (lend st b) .outcome .answer) (stationOf first (st .history)) f (lend st b) (st .history)) ≡ frameLeft s f delay (lend st b) .outcome .station)
-          (k .same) (frame-history first (st .history) f delay (lend st b));
-      sound = frame-sound (st .station) f delay (lend st b) (k .sound);
+          (λ (s : Station). stationOf first (befell (frameLeft s arrival (lend st b) .outcome .answer) (stationOf first (st .history)) arrival (lend st b) (st .history)) ≡ frameLeft s arrival (lend st b) .outcome .station)
+          (k .same) (frame-history first (st .history) arrival (lend st b));
+      sound = frame-sound (st .station) arrival (lend st b) (k .sound);
     }
 call-kept first st lost k =
     record {
@@ -96,7 +96,7 @@ call-kept first st (removePort port) k =
 call-kept first st (giveKey octets) k =
     record { same = ap (λ (s : Station). lingbarrow .giveKey s octets .station) (k .same); sound = key-sound (st .station) octets (k .sound) }
 
-pub run-kept : (first : Station) (st : Standing) (l : List Call) → Kept first st → Kept first (run lingbarrow first st l)
+pub run-kept : (first : Station) (st : Progress) (l : List Call) → Kept first st → Kept first (run lingbarrow first st l)
 run-kept first st [] k = k
 run-kept first st (c ∷ l) k = run-kept first (after lingbarrow first st c) l (call-kept first st c k)
 

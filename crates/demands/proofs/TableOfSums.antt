@@ -9,9 +9,9 @@ use Rattle.hec.proofs.Compute.{computed32}
 use Rattle.bch.specs.Code.{remainderFrom}
 use Rattle.flips.proofs.FlipRule.{flips}
 use Rattle.xgtc.specs.Layouts.{hlendOf}
-use Rattle.framing.specs.Reads.{taken}
+use Rattle.xgem.specs.Reads.{taken}
 use Rattle.bwmap.proofs.Sums.{sum-8, sum-9, sum-10, sum-11}
-use Rattle.conduct.proofs.Sums.{sum-12}
+use Rattle.invariants.proofs.Sums.{sum-12}
 use Rattle.demands.specs.Sums.{Sums, hlendGives}
 
 pub sums : Sums

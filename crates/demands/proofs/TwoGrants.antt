@@ -15,24 +15,25 @@ use Rattle.flips.proofs.FlipRule.{flips}
 use Rattle.xgtc.specs.declared.allocation.Allocation.{Allocation}
 use Rattle.xgtc.specs.declared.hlend.Hlend.{Hlend}
 use Rattle.xgtc.specs.Layouts.{hlendOf, allocationOf}
-use Rattle.framing.specs.Reads.{Found, fields, taken}
+use Rattle.xgem.specs.Reads.{Found, fields, taken}
 use Rattle.xgtc.specs.Reads.{readHlend}
 use Rattle.station.specs.declared.Station.{Station}
 use Rattle.station.specs.declared.answers.Answer.the-variants.{Done}
 use Rattle.entries.specs.Standings.{standing, sorted, startUnfit, noRoom, continues, discovery}
-use Rattle.series.specs.Series.{Series, entryAt, standings, seriesOf, planned, judged, wordsOf}
+use Rattle.series.specs.Series.{Series, entryAt, standings, seriesOf, outset, planned, judged, wordsOf}
 use Rattle.bwmap.specs.Promises.{Account}
-use Rattle.bwmap.specs.Laser.{burstsOf}
-use Rattle.arrival.specs.Lengths.{Lent, lengthFits, enough}
-use Rattle.arrival.specs.Partitions.{mapOf}
-use Rattle.arrival.specs.Frame.{Left, ownOf, plannedIn, handled, frameLeft}
-use Rattle.engine.specs.Times.{lostLeft}
+use Rattle.plan.specs.Laser.{burstsOf}
+use Rattle.downstream.specs.Lengths.{lengthFits}
+use Rattle.frame.specs.Given.{Arrival, Lent, enough}
+use Rattle.downstream.specs.Partitions.{mapOf}
+use Rattle.frame.specs.Frame.{FrameLeft, ownOf, plannedIn, handled, frameLeft}
+use Rattle.engine.specs.Lods.{lostLeft}
 use Rattle.engine.specs.Answers.{lostIn, Handled}
 use Rattle.engine.proofs.Table.{only}
 use Rattle.demands.specs.Runs.{frame}
-use Rattle.demands.specs.Demand3.{sent, Demand3}
+use Rattle.demands.specs.Demand3.{sendings, Demand3}
 use Rattle.demands.specs.Wrong.{withFrame}
-use Rattle.demands.proofs.RefutingRuns.{fresh, memory, buffers, lent, begun, Leads, on, asked, next-planned, none-planned, bare, searching, searching-in-range, bare-leads}
+use Rattle.demands.proofs.RefutingRuns.{fresh, memory, buffers, lent, arrives, begun, Leads, on, asked, next-planned, none-planned, bare, searching, searching-in-range, bare-leads}
 
 -- ---- the frame as it is read
 
@@ -66,7 +67,7 @@ two-series = ap₂ (λ (a b : Found Allocation). seriesOf (standing (ownOf searc
 
 -- ---- this engine
 
-handled-two : Handled searching two 0 lent false (handled searching twoEntries two 0 lent)
+handled-two : Handled searching (arrives two) lent false (handled searching twoEntries (arrives two) lent)
 unfolding lostIn lengthFits enough two memory buffers twoEntries
 handled-two =
     record {
@@ -78,19 +79,19 @@ handled-two =
       leaves = refl;
     }
 
-pub left-two : handled searching twoEntries two 0 lent ≡ frameLeft searching two 0 lent
-left-two = only searching two 0 lent Done (handled searching twoEntries two 0 lent) handled-two .0
+pub left-two : handled searching twoEntries (arrives two) lent ≡ frameLeft searching (arrives two) lent
+left-two = only searching (arrives two) lent Done (handled searching twoEntries (arrives two) lent) handled-two .0
 
-pub answer-two : handled searching twoEntries two 0 lent .outcome .answer ≡ Done
-answer-two = only searching two 0 lent Done (handled searching twoEntries two 0 lent) handled-two .1
+pub answer-two : handled searching twoEntries (arrives two) lent .outcome .answer ≡ Done
+answer-two = only searching (arrives two) lent Done (handled searching twoEntries (arrives two) lent) handled-two .1
 
-pub two-planned : plannedIn searching twoEntries two ≡ seriesFrom 0 ∷ seriesFrom 100 ∷ []
+pub two-planned : plannedIn searching twoEntries (arrives two) ≡ seriesFrom 0 ∷ seriesFrom 100 ∷ []
 unfolding plannedIn seriesFrom grantAt judged wordsOf
-two-planned = ap (planned 0 0) two-series
+two-planned = ap (planned (outset 0)) two-series
 
 -- ---- any engine
 
-both-planned : (p : List Series) → Account 0 0 (seriesFrom 0 ∷ seriesFrom 100 ∷ []) p → p ≡ seriesFrom 0 ∷ seriesFrom 100 ∷ []
+both-planned : (p : List Series) → Account (outset 0) (seriesFrom 0 ∷ seriesFrom 100 ∷ []) p → p ≡ seriesFrom 0 ∷ seriesFrom 100 ∷ []
 unfolding seriesFrom grantAt wordsOf
 both-planned p a =
     let x = next-planned (omega arith) (omega arith) (omega arith) a in
@@ -98,9 +99,9 @@ both-planned p a =
     x .is ∙ ap (λ (l : List Series). seriesFrom 0 ∷ l) (y .is ∙ ap (λ (l : List Series). seriesFrom 100 ∷ l) (none-planned (y .account)))
 
 -- one that goes from power-on to O2-3 as it should, and answers this frame with 0
-pub sends-both : (call : Station → List ℕ → ℕ → Lent → Left) → Demand3 (withFrame call) → Leads (call fresh bare 0 lent) searching
-    → call searching two 0 lent .outcome .answer ≡ Done → sent (call searching two 0 lent) ≡ burstsOf (seriesFrom 0 ∷ seriesFrom 100 ∷ [])
+pub sends-both : (call : Station → Arrival → Lent → FrameLeft) → Demand3 (withFrame call) → Leads (call fresh (arrives bare) lent) searching
+    → call searching (arrives two) lent .outcome .answer ≡ Done → sendings (call searching (arrives two) lent) ≡ burstsOf (seriesFrom 0 ∷ seriesFrom 100 ∷ [])
 sends-both call d first answer =
-    let o = asked call lostLeft d (frame bare 0 buffers ∷ []) searching searching
+    let o = asked call lostLeft d (frame (arrives bare) buffers ∷ []) searching searching
     (on call lostLeft _ fresh fresh begun bare searching searching bare-leads first) two twoEntries reads-two answer in
-    o .are ∙ ap burstsOf (both-planned (o .planned) (subst (λ (l : List Series). Account 0 0 l (o .planned)) two-series (o .account)))
+    o .are ∙ ap burstsOf (both-planned (o .planned) (subst (λ (l : List Series). Account (outset 0) l (o .planned)) two-series (o .account)))

@@ -10,14 +10,14 @@ use lib.Dec.{leb}
 use lib.ListN.{length}
 use Rattle.xgtc.specs.declared.hlend.Hlend.{Hlend}
 use Rattle.xgtc.specs.declared.allocation.Allocation.{Allocation}
-use Rattle.framing.specs.declared.xgem.XgemHeader.{XgemHeader}
-use Rattle.framing.specs.declared.octets.Written.{Written}
-use Rattle.framing.specs.declared.octets.Written.the-variants.{Done as WriteDone, Refused}
-use Rattle.framing.specs.Octets.{octets}
-use Rattle.framing.specs.Layouts.{xgemFits, xgemWord}
+use Rattle.xgem.specs.declared.frame.XgemHeader.{XgemHeader}
+use Rattle.xgem.specs.declared.words.Written.{Written}
+use Rattle.xgem.specs.declared.words.Written.the-variants.{Done as WriteDone, Refused}
+use Rattle.octets.specs.Octets.{octets}
+use Rattle.xgem.specs.Layouts.{xgemFits, xgemWord}
 use Rattle.xgtc.specs.Layouts.{hlendFits, hlendWord, allocationFits, allocationWord}
-use Rattle.framing.specs.Writes.{put, carrying, xgemFrame}
-use Rattle.framing.specs.Reads.{fields, unreadable}
+use Rattle.xgem.specs.Writes.{put, carrying, xgemFrame}
+use Rattle.xgem.specs.Reads.{fields, unreadable}
 use Rattle.xgtc.specs.Reads.{readHlend}
 use Rattle.ids.specs.declared.PortId.{PortId}
 use Rattle.ids.specs.Ids.{assignablePort}
@@ -28,16 +28,16 @@ use Rattle.station.specs.States.{holdsIdentity}
 use Rattle.link.specs.Link.{withKey, installed}
 use Rattle.ports.specs.Ports.{portPlace, vacancy, addPort, removePort}
 use Rattle.station.specs.Station.{withLink, withPorts}
-use Rattle.ranges.specs.Ranges.{inRange}
+use Rattle.validity.specs.Ranges.{inRange}
 use Rattle.timing.specs.Timing.{lostTime}
-use Rattle.host.specs.declared.Outcome.{Outcome}
-use Rattle.host.specs.Host.{found}
+use Rattle.ids.specs.Places.{isHeld}
 use Rattle.payload.specs.Frames.{parse}
-use Rattle.arrival.specs.Lengths.{Lent, lengthFits}
-use Rattle.arrival.specs.Partitions.{headerEnd, payloadOf}
-use Rattle.arrival.specs.Frame.{isOperating}
+use Rattle.downstream.specs.Lengths.{lengthFits}
+use Rattle.frame.specs.Given.{Arrival, Lent}
+use Rattle.downstream.specs.Partitions.{headerEnd, payloadOf}
+use Rattle.station.specs.States.{isOperating}
 use Rattle.engine.specs.Answers.{Row}
-use Rattle.engine.specs.declared.alone.StretchPlace.{StretchPlace}
+use Rattle.engine.specs.declared.stretching.StretchPlace.{StretchPlace}
 use Rattle.engine.specs.Stretch.{empty, placeIn}
 use Rattle.demands.specs.Engine.{Engine}
 
@@ -59,14 +59,14 @@ LostRow s NotWritten next = ⊥
 -- a port is added: 1, 7, 8, 9 with nothing changed, tested in that order, or it has the lowest empty slot
 abbrev pub AddRow : Station → PortId → Answer → Station → Type 0
 AddRow s port Done next =
-    (inRange s ≡ true) × (assignablePort port ≡ true) × (found (portPlace (s .ports) port) ≡ false) × (found (vacancy (s .ports)) ≡ true)
+    (inRange s ≡ true) × (assignablePort port ≡ true) × (isHeld (portPlace (s .ports) port) ≡ false) × (isHeld (vacancy (s .ports)) ≡ true)
     × (next ≡ withPorts s (addPort (s .ports) port))
 AddRow s port StateOutOfRange next = (inRange s ≡ false) × (next ≡ s)
 AddRow s port PortOutOfRange next = (inRange s ≡ true) × (assignablePort port ≡ false) × (next ≡ s)
 AddRow s port PortHeldOrNotHeld next =
-    (inRange s ≡ true) × (assignablePort port ≡ true) × (found (portPlace (s .ports) port) ≡ true) × (next ≡ s)
+    (inRange s ≡ true) × (assignablePort port ≡ true) × (isHeld (portPlace (s .ports) port) ≡ true) × (next ≡ s)
 AddRow s port SlotsTaken next =
-    (inRange s ≡ true) × (assignablePort port ≡ true) × (found (portPlace (s .ports) port) ≡ false) × (found (vacancy (s .ports)) ≡ false) × (next ≡ s)
+    (inRange s ≡ true) × (assignablePort port ≡ true) × (isHeld (portPlace (s .ports) port) ≡ false) × (isHeld (vacancy (s .ports)) ≡ false) × (next ≡ s)
 AddRow s port FrameLengthUnfit next = ⊥
 AddRow s port BufferTooShort next = ⊥
 AddRow s port HlendUnreadable next = ⊥
@@ -78,11 +78,11 @@ AddRow s port NotWritten next = ⊥
 -- a port is removed: 1, 7, 8
 abbrev pub RemoveRow : Station → PortId → Answer → Station → Type 0
 RemoveRow s port Done next =
-    (inRange s ≡ true) × (assignablePort port ≡ true) × (found (portPlace (s .ports) port) ≡ true) × (next ≡ withPorts s (removePort (s .ports) port))
+    (inRange s ≡ true) × (assignablePort port ≡ true) × (isHeld (portPlace (s .ports) port) ≡ true) × (next ≡ withPorts s (removePort (s .ports) port))
 RemoveRow s port StateOutOfRange next = (inRange s ≡ false) × (next ≡ s)
 RemoveRow s port PortOutOfRange next = (inRange s ≡ true) × (assignablePort port ≡ false) × (next ≡ s)
 RemoveRow s port PortHeldOrNotHeld next =
-    (inRange s ≡ true) × (assignablePort port ≡ true) × (found (portPlace (s .ports) port) ≡ false) × (next ≡ s)
+    (inRange s ≡ true) × (assignablePort port ≡ true) × (isHeld (portPlace (s .ports) port) ≡ false) × (next ≡ s)
 RemoveRow s port SlotsTaken next = ⊥
 RemoveRow s port FrameLengthUnfit next = ⊥
 RemoveRow s port BufferTooShort next = ⊥
@@ -147,7 +147,7 @@ WriteRow fit octets target WriteDone left = (fit ≡ true) × (leb (length octet
 WriteRow fit octets target Refused left = ((fit && leb (length octets) (length target)) ≡ false) × (left ≡ target)
 
 pub record Demand1 (E : Engine) : Type 0 where
-  pub frame : (s : Station) (f : List ℕ) (delay : ℕ) (lent : Lent) → Row s f delay lent (E .frame s f delay lent .outcome .answer) (E .frame s f delay lent)
+  pub frame : (s : Station) (a : Arrival) (lent : Lent) → Row s a lent (E .frame s a lent .outcome .answer) (E .frame s a lent)
   pub lost : (s : Station) → LostRow s (E .lost s .answer) (E .lost s .station)
   pub add : (s : Station) (port : PortId) → AddRow s port (E .addPort s port .answer) (E .addPort s port .station)
   pub remove : (s : Station) (port : PortId) → RemoveRow s port (E .removePort s port .answer) (E .removePort s port .station)

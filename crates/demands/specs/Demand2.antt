@@ -11,22 +11,22 @@ use mathlib.Core.List.{List, _++_}
 use lib.ListN.{length, take, drop}
 use Rattle.xgtc.specs.declared.hlend.Hlend.{Hlend}
 use Rattle.xgtc.specs.declared.allocation.Allocation.{Allocation}
-use Rattle.framing.specs.declared.xgem.XgemHeader.{XgemHeader}
-use Rattle.framing.specs.Layouts.{xgemFits, payloadSize}
+use Rattle.xgem.specs.declared.frame.XgemHeader.{XgemHeader}
+use Rattle.xgem.specs.Layouts.{xgemFits, payloadSize}
 use Rattle.xgtc.specs.Layouts.{hlendFits, allocationFits}
-use Rattle.framing.specs.Reads.{fields, readXgem}
+use Rattle.xgem.specs.Reads.{fields, readXgem}
 use Rattle.xgtc.specs.Reads.{readHlend, readAllocation}
-use Rattle.framing.specs.Writes.{carrying}
+use Rattle.xgem.specs.Writes.{carrying}
 use Rattle.ploam.specs.Layout.{messageOctets, coveredOctets, addressOf, typeOf, seqNoOf}
 use Rattle.integrity.specs.Integrity.{micOf, micRight, keyFor, installedKey, genuine}
 use Rattle.integrity.specs.declared.Direction.{Direction}
 use Rattle.integrity.specs.declared.Direction.the-variants.{Upstream}
-use Rattle.upstream.specs.Upstream.{upstreamAddress, upstreamType, upstreamSeqNo, upstreamContent, heard, asSent, Numbers}
-use Rattle.upstream.specs.Writing.{written}
-use Rattle.upstream.specs.declared.UpstreamMessage.{UpstreamMessage}
-use Rattle.upstream.specs.declared.Heard.the-variants.{Said}
+use Rattle.ploamu.specs.Upstream.{upstreamAddress, upstreamType, upstreamSeqNo, upstreamContent, heard, asSent, Numbers}
+use Rattle.ploamu.specs.Writing.{written}
+use Rattle.ploamu.specs.declared.UpstreamMessage.{UpstreamMessage}
+use Rattle.ploamu.specs.declared.Heard.the-variants.{Said}
 use Rattle.station.specs.declared.Station.{Station}
-use Rattle.activation.specs.Receiving.{receive}
+use Rattle.messages.specs.Receiving.{receive}
 use Rattle.demands.specs.Engine.{Engine}
 use Rattle.demands.specs.Headers.{HeaderFact}
 

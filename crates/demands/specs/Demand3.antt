@@ -11,33 +11,33 @@ use mathlib.Core.Logic.{_⊎_}
 use mathlib.Core.List.{List, [], _∷_, _++_}
 use Rattle.xgtc.specs.declared.allocation.Allocation.{Allocation}
 use Rattle.xgtc.specs.declared.hlend.Hlend.{Hlend}
-use Rattle.framing.specs.Reads.{fields}
+use Rattle.xgem.specs.Reads.{fields}
 use Rattle.xgtc.specs.Reads.{readHlend}
 use Rattle.station.specs.declared.Station.{Station}
 use Rattle.station.specs.declared.answers.Answer.{Answer}
 use Rattle.station.specs.declared.answers.Answer.the-variants.{Done, DelineationLost}
 use Rattle.station.specs.Limits.{upstreamWords}
 use Rattle.station.specs.States.{holdsIdentity}
-use Rattle.entries.specs.Standings.{silent}
+use Rattle.station.specs.States.{silent}
 use Rattle.series.specs.Limits.{ploamuWords}
-use Rattle.series.specs.Series.{Series, standings, seriesOf}
+use Rattle.series.specs.Series.{Series, outset, standings, seriesOf}
 use Rattle.bwmap.specs.Promises.{SeriesIn, Account}
-use Rattle.bwmap.specs.Laser.{Grant, Sending, laser, burstOf, burstsOf}
+use Rattle.plan.specs.Laser.{Grant, Sending, laser, burstOf, burstsOf}
 use Rattle.bwmap.specs.Upstream.{Burst, takers}
 use Rattle.ledger.specs.Events.{Event, stationOf}
 use Rattle.ledger.specs.Promises.{Exact}
 use Rattle.ledger.specs.Plan.{ownAt, Listed, Discovery, OursAfter}
-use Rattle.arrival.specs.Lengths.{Lent}
-use Rattle.arrival.specs.Partitions.{mapOf}
-use Rattle.arrival.specs.Frame.{Left}
+use Rattle.frame.specs.Given.{Arrival}
+use Rattle.downstream.specs.Partitions.{mapOf}
+use Rattle.frame.specs.Frame.{FrameLeft}
 use Rattle.demands.specs.Engine.{Engine}
-use Rattle.demands.specs.Runs.{Call, frame, lost, addPort, removePort, giveKey, Buffers, Standing, lend, after, runOf, start}
+use Rattle.demands.specs.Runs.{Call, frame, lost, addPort, removePort, giveKey, Buffers, Progress, lend, after, runOf, start}
 
 -- ---- what the laser sends
 
 -- by what stands in the lent plan at exit, and so many records of it
-abbrev pub sent : Left → List Sending
-sent left = laser (left .outcome .records) (left .lent .plan)
+abbrev pub sendings : FrameLeft → List Sending
+sendings left = laser (left .counts .records) (left .lent .plan)
 
 -- a burst's words, from its records: "1 word, 12 more if its head has PLOAMu, its GrantSizes, and 1 word"
 abbrev pub granted : List Grant → ℕ
@@ -53,16 +53,16 @@ placed time [] = []
 placed time (b ∷ l) = record { from = upstreamWords * time + b .start; size = wordsOf b } ∷ placed time l
 
 -- all bursts of a run
-abbrev pub sentBy : Engine → Standing → Call → List Burst
-sentBy E st (frame f delay b) = placed (st .times) (sent (E .frame (st .station) f delay (lend st b)))
-sentBy E st lost = []
-sentBy E st (addPort port) = []
-sentBy E st (removePort port) = []
-sentBy E st (giveKey octets) = []
+abbrev pub burstsBy : Engine → Progress → Call → List Burst
+burstsBy E st (frame a b) = placed (st .times) (sendings (E .frame (st .station) a (lend st b)))
+burstsBy E st lost = []
+burstsBy E st (addPort port) = []
+burstsBy E st (removePort port) = []
+burstsBy E st (giveKey octets) = []
 
-abbrev pub burstsFrom : Engine → Station → Standing → List Call → List Burst
+abbrev pub burstsFrom : Engine → Station → Progress → List Call → List Burst
 burstsFrom E first st [] = []
-burstsFrom E first st (c ∷ l) = sentBy E st c ++ burstsFrom E first (after E first st c) l
+burstsFrom E first st (c ∷ l) = burstsBy E st c ++ burstsFrom E first (after E first st c) l
 
 -- ---- one frame of a run, which comes after the history h
 
@@ -92,12 +92,12 @@ pub record Obeys (first : Station) (h : List Event) (m : List ℕ) (carried : �
   -- and the series of ours, in map order, are each planned once or left out for a fact that is shown
   pub planned : List Series
   pub are : bursts ≡ burstsOf planned
-  pub account : Account carried 0 (seriesOf (standings (ownAt first h) m)) planned
+  pub account : Account (outset carried) (seriesOf (standings (ownAt first h) m)) planned
 
-abbrev pub Plans : Answer → Station → Standing → List ℕ → Left → Type 0
-Plans answer first st f left =
-    (answer ≡ Done) ⊎ (answer ≡ DelineationLost) → (hlend : Hlend) → readHlend f ≡ fields hlend
-    → Obeys first (st .history) (mapOf hlend f) (stationOf first (st .history) .carried) (sent left)
+abbrev pub Plans : Answer → Station → Progress → Arrival → FrameLeft → Type 0
+Plans answer first st a left =
+    (answer ≡ Done) ⊎ (answer ≡ DelineationLost) → (hlend : Hlend) → readHlend (a .octets) ≡ fields hlend
+    → Obeys first (st .history) (mapOf hlend (a .octets)) (stationOf first (st .history) .carried) (sendings left)
 
 -- ---- the demand
 
@@ -108,15 +108,15 @@ pub record Demand3 (E : Engine) : Type 0 where
   pub ours : (serial registration memory : List ℕ) (calls : List Call)
       → OursAfter (E .powerOn serial registration) (runOf E serial registration memory calls .history)
   -- a frame answered 0 or 6 is planned so
-  pub plans : (serial registration memory : List ℕ) (calls : List Call) (f : List ℕ) (delay : ℕ) (b : Buffers)
+  pub plans : (serial registration memory : List ℕ) (calls : List Call) (a : Arrival) (b : Buffers)
       → let st = runOf E serial registration memory calls in
-      let left = E .frame (st .station) f delay (lend st b) in
-      Plans (left .outcome .answer) (E .powerOn serial registration) st f left
+      let left = E .frame (st .station) a (lend st b) in
+      Plans (left .outcome .answer) (E .powerOn serial registration) st a left
   -- and after any other answer nothing is sent
-  pub silent : (serial registration memory : List ℕ) (calls : List Call) (f : List ℕ) (delay : ℕ) (b : Buffers)
+  pub silent : (serial registration memory : List ℕ) (calls : List Call) (a : Arrival) (b : Buffers)
       → let st = runOf E serial registration memory calls in
-      let left = E .frame (st .station) f delay (lend st b) in
-      (left .outcome .answer ≡ Done → ⊥) → (left .outcome .answer ≡ DelineationLost → ⊥) → sent left ≡ []
+      let left = E .frame (st .station) a (lend st b) in
+      (left .outcome .answer ≡ Done → ⊥) → (left .outcome .answer ≡ DelineationLost → ⊥) → sendings left ≡ []
   -- "No two planned bursts of the run share an upstream word"
   pub once : (serial registration memory : List ℕ) (calls : List Call) (word : ℕ)
       → takers word (burstsFrom E (E .powerOn serial registration) (start (E .powerOn serial registration) memory) calls) ≤ 1

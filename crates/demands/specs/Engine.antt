@@ -6,31 +6,31 @@ use mathlib.Core.List.{List}
 use Rattle.ids.specs.declared.PortId.{PortId}
 use Rattle.xgtc.specs.declared.hlend.Hlend.{Hlend}
 use Rattle.xgtc.specs.declared.allocation.Allocation.{Allocation}
-use Rattle.framing.specs.declared.xgem.XgemHeader.{XgemHeader}
-use Rattle.framing.specs.Writes as writing
+use Rattle.xgem.specs.declared.frame.XgemHeader.{XgemHeader}
+use Rattle.xgem.specs.Writes as writing
 use Rattle.xgtc.specs.Writes as xgtc-writing
 use Rattle.station.specs.declared.Station.{Station}
 use Rattle.station.specs.Station as station
-use Rattle.host.specs.declared.Outcome.{Outcome}
+use Rattle.station.specs.declared.answers.Outcome.{Outcome}
 use Rattle.host.specs.Host.{afterAdd, afterRemove, afterKey}
-use Rattle.arrival.specs.Lengths.{Lent}
-use Rattle.arrival.specs.Frame.{Left, frameLeft}
-use Rattle.engine.specs.Times.{lostLeft}
-use Rattle.engine.specs.declared.alone.StretchPlace.{StretchPlace}
+use Rattle.frame.specs.Given.{Arrival, Lent}
+use Rattle.frame.specs.Frame.{FrameLeft, frameLeft}
+use Rattle.engine.specs.Lods.{lostLeft}
+use Rattle.engine.specs.declared.stretching.StretchPlace.{StretchPlace}
 use Rattle.engine.specs.Stretch.{stretchPlace}
 
 pub record Engine : Type 0 where
   pub powerOn : List ℕ → List ℕ → Station
-  pub frame : Station → List ℕ → ℕ → Lent → Left
+  pub frame : Station → Arrival → Lent → FrameLeft
   pub lost : Station → Outcome
   pub addPort : Station → PortId → Outcome
   pub removePort : Station → PortId → Outcome
   pub giveKey : Station → List ℕ → Outcome
   pub stretchPlace : Station → List ℕ → ℕ → StretchPlace
-  pub writeHlend : Hlend → List ℕ → writing.Left
-  pub writeAllocation : Allocation → List ℕ → writing.Left
-  pub writeXgem : XgemHeader → List ℕ → writing.Left
-  pub writeXgemFrame : XgemHeader → List ℕ → List ℕ → writing.Left
+  pub writeHlend : Hlend → List ℕ → writing.WriteLeft
+  pub writeAllocation : Allocation → List ℕ → writing.WriteLeft
+  pub writeXgem : XgemHeader → List ℕ → writing.WriteLeft
+  pub writeXgemFrame : XgemHeader → List ℕ → List ℕ → writing.WriteLeft
 
 -- this one: each definition is the right side of the public call's contract
 abbrev pub lingbarrow : Engine

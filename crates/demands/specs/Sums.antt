@@ -2,12 +2,12 @@
 -- Assumes nothing.
 use mathlib.Core.Path.{_≡_}
 use Prim.Native.Nat.{ℕ}
-use Rattle.framing.specs.Octets.{octets}
-use Rattle.framing.specs.Layouts.{payloadSize}
-use Rattle.framing.specs.Reads.{fields, unreadable}
+use Rattle.octets.specs.Octets.{octets}
+use Rattle.xgem.specs.Layouts.{payloadSize}
+use Rattle.xgem.specs.Reads.{fields, unreadable}
 use Rattle.xgtc.specs.Reads.{readHlend}
 use Rattle.bwmap.specs.Sums.{Sum8, Sum9, Sum10, Sum11}
-use Rattle.conduct.proofs.Sums.{Sum12}
+use Rattle.invariants.proofs.Sums.{Sum12}
 
 -- the four octets of HLend give a BWmap length and a PLOAM count
 abbrev pub hlendGives : ℕ → ℕ → ℕ → Type 0
@@ -28,5 +28,5 @@ pub record Sums : Type 1 where
   pub sum-9 : Sum9
   pub sum-10 : Sum10
   pub sum-11 : Sum11
-  -- Relative -1 at delay 0: unchanged, parameter error
+  -- Relative -1 at equalization delay 0: unchanged, parameter error
   pub sum-12 : Sum12

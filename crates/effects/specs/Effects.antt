@@ -2,7 +2,7 @@
 -- Assumes nothing.
 use Prim.Native.Nat.{ℕ}
 use mathlib.Core.Bool.{Bool, true, false, _&&_}
-use Rattle.link.specs.declared.Completion.{Completion}
+use Rattle.ploam.specs.declared.Completion.{Completion}
 use Rattle.link.specs.declared.Response.{Response}
 use Rattle.link.specs.declared.Response.the-variants.{Acknowledgement}
 use Rattle.effects.specs.declared.Change.{Change}

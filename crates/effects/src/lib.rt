@@ -1,28 +1,17 @@
-// What a downstream message can do to the station, and what Ranging_Time does. The decision is apart from what it does:
-// an effect is told by the message and the state, in crate `decisions`, and applied once the message has been found
-// genuine.
+// What a downstream message can do to the station. The decision is apart from what it does: an effect is told by the message and
+// the state, in crate `decisions`, and applied once the message has been found genuine.
 ghost use mathlib.Core.Path.{_≡_};
 ghost use Rattle.effects.specs.Effects.{ignored, does, owes, answers, isIgnored};
 ghost use Rattle.effects.specs.Changes.{Applies};
 use ids::AllocId;
 use ids::OnuId;
-use link::Completion;
 use link::Owed;
 use link::Response;
+use ploam::Completion;
 use station::Activation;
 use station::Station;
 
 mod changes;
-pub mod ranging;
-
-// The states by the numbers that the paper gives them.
-pub const O23: u8 = 2;
-
-pub const O4: u8 = 4;
-
-pub const O5: u8 = 5;
-
-pub const O7: u8 = 7;
 
 // What becomes of the state.
 pub enum Change {

@@ -1,46 +1,43 @@
 -- The counts are true: records, replies and bytes equal what was written, and what lies past them is as it was.
 -- Assumes nothing.
-use Prim.Native.Nat.{ℕ, zero, suc, _+_, _-_, _*_, _≤_}
+use Prim.Native.Nat.{ℕ, zero, suc, _+_, _-_, _≤_}
 use native.Mathlib.Omega.{arith}
-use mathlib.Core.Path.{_≡_, _∙_, refl, sym, ap, subst}
-use mathlib.Core.Bool.{Bool, true, false, not, cond}
-use mathlib.Core.List.{List, [], _∷_, _++_}
-use lib.Dec.{leb}
+use mathlib.Core.Path.{_≡_, _∙_, refl, sym, ap}
+use mathlib.Core.Bool.{Bool, true, false, cond}
+use mathlib.Core.List.{List, [], _++_}
 use lib.ListN.{length, take, drop, length-drop, length-take}
-use lib.Seq.{drop-drop}
-use borrow.Author.Tests.{leb-true}
 use Rattle.ids.specs.declared.PortId.{PortId}
 use Rattle.ids.specs.Ids.{managementPort}
 use Rattle.xgtc.specs.declared.hlend.Hlend.{Hlend}
-use Rattle.framing.specs.declared.xgem.XgemHeader.{XgemHeader}
-use Rattle.framing.specs.Layouts.{payloadSize}
-use Rattle.framing.specs.Reads.{Found, fields, unreadable, short}
-use Rattle.xgtc.specs.Reads.{readHlend}
-use Rattle.framing.proofs.Frames.{covers}
+use Rattle.xgem.specs.Layouts.{payloadSize}
+use Rattle.xgem.proofs.Frames.{covers}
 use Rattle.station.specs.declared.Station.{Station}
 use Rattle.station.specs.declared.answers.Answer.{Answer}
-use Rattle.station.specs.declared.answers.Answer.the-variants.{StateOutOfRange, FrameLengthUnfit, BufferTooShort, HeaderTooLong, HlendUnreadable}
-use Rattle.ranges.specs.Ranges.{inRange}
-use Rattle.conduct.proofs.InRange.{Sound, sound-in-range}
-use Rattle.bwmap.specs.Plan as plan
-use Rattle.bwmap.proofs.Steps.{length-numbers}
+use Rattle.station.specs.States.{isOperating}
+use Rattle.invariants.proofs.InRange.{Sound, sound-in-range}
+use Rattle.plan.specs.Plan as plan
+use Rattle.plan.proofs.Lengths.{length-numbers}
 use Rattle.payload.specs.declared.frames.Next.{Next}
 use Rattle.payload.specs.declared.frames.Next.the-variants.{Done, Lost, Frame}
 use Rattle.payload.specs.declared.walk.Delineation.the-variants.{Kept}
 use Rattle.payload.specs.Bounds.{Ready}
 use Rattle.payload.specs.Deliveries.{deliveriesOf}
-use Rattle.payload.specs.Frames.{Xgem, nextOf, parse}
+use Rattle.payload.specs.Frames.{nextOf, parse}
 use Rattle.payload.specs.Memory.{Receiver, put}
-use Rattle.payload.specs.Walk.{Walked, memoryBytes, walkOf, leftBy, steps, endedBy}
+use Rattle.payload.specs.Walk.{Walked, walkOf, leftBy, steps, endedBy}
 use Rattle.payload.proofs.Walks.{frame-inside, parse-done, parse-lost, parse-next}
 use Rattle.payload.proofs.Steps.{ready-less}
 use Rattle.payload.proofs.Fit.{ready}
 use Rattle.payload.proofs.Counts.{asked, counts-true}
-use Rattle.arrival.specs.Lengths.{Lent, lengthFits, buffersFit}
-use Rattle.arrival.specs.Partitions.{headerEnd, payloadOf}
-use Rattle.arrival.specs.Frame.{Left, isOperating, refused, unread, plannedIn, repliesIn, payloadIn, done, handled, byHlend, frameLeft}
+use Rattle.downstream.specs.declared.Opening.{Opening}
+use Rattle.downstream.specs.declared.Opening.the-variants.{Refused, Unread, Opened}
+use Rattle.downstream.specs.Partitions.{headerEnd, payloadOf}
+use Rattle.downstream.specs.Opening.{opening}
+use Rattle.downstream.proofs.Laws.{opened}
+use Rattle.frame.specs.Given.{Arrival, Lent, buffersFit}
+use Rattle.frame.specs.Frame.{refused, plannedIn, repliesIn, payloadIn, done, handled, byOpening, frameLeft}
 use Rattle.engine.specs.Counts.{Counted}
-use Rattle.arrival.proofs.Laws.{Room, room, partials-within}
+use Rattle.frame.proofs.Laws.{Room, room, partials-within}
 
 -- ---- what the frames of a payload deliver is no more than the payload
 
@@ -103,61 +100,48 @@ walked-delivers own r place payload z k =
       count = sym (ap (λ (x : Receiver). x .bytes) (walk-is own r place payload) ∙ e .1 ∙ c .1 ∙ ap (λ (n : ℕ). n + length (deliveriesOf own r frames)) z ∙ from-zero (length (deliveriesOf own r frames)));
     }
 
-payload-delivers : (s : Station) (h : Hlend) (f : List ℕ) (lent : Lent) → Sound s → Room (length f) lent
-    → Delivered (lent .deliveries) (payloadIn s h f lent .receiver .deliveries) (payloadIn s h f lent .receiver .bytes)
+payload-delivers : (s : Station) (h : Hlend) (a : Arrival) (lent : Lent) → Sound s → Room a lent
+    → Delivered (lent .deliveries) (payloadIn s h a lent .receiver .deliveries) (payloadIn s h a lent .receiver .bytes)
 unfolding payloadIn
-payload-delivers s h f lent k r = go (isOperating (s .activation))
+payload-delivers s h a lent k r = go (isOperating (s .activation))
   where
     own : PortId
     own = managementPort (s .link .onu)
 
     go
         : (b : Bool)
-        → let w = cond {A = Walked} b (walkOf (managementPort (s .link .onu)) (record { ports = s .ports; bytes = 0; memory = lent .memory; deliveries = lent .deliveries }) (headerEnd h) (payloadOf h f)) (record { receiver = record { ports = s .ports; bytes = 0; memory = lent .memory; deliveries = lent .deliveries }; delineation = Kept }) in
+        → let w = cond {A = Walked} b (walkOf (managementPort (s .link .onu)) (record { ports = s .ports; bytes = 0; memory = lent .memory; deliveries = lent .deliveries }) (headerEnd h) (payloadOf h (a .octets))) (record { receiver = record { ports = s .ports; bytes = 0; memory = lent .memory; deliveries = lent .deliveries }; delineation = Kept }) in
         Delivered (lent .deliveries) (w .receiver .deliveries) (w .receiver .bytes)
     go true =
-        walked-delivers (managementPort (s .link .onu)) (record { ports = s .ports; bytes = 0; memory = lent .memory; deliveries = lent .deliveries }) (headerEnd h) (payloadOf h f) refl
-        (ready (s .ports) (managementPort (s .link .onu)) (lent .memory) (lent .deliveries) (headerEnd h) (payloadOf h f) (partials-within s (k .lengths-long) (sound-in-range s k)) (r .memory)
-        (omega (arith, r .deliveries, length-drop (headerEnd h) f)) (k .ports-long) (k .lengths-long))
+        walked-delivers (managementPort (s .link .onu)) (record { ports = s .ports; bytes = 0; memory = lent .memory; deliveries = lent .deliveries }) (headerEnd h) (payloadOf h (a .octets)) refl
+        (ready (s .ports) (managementPort (s .link .onu)) (lent .memory) (lent .deliveries) (headerEnd h) (payloadOf h (a .octets)) (partials-within s (k .lengths-long) (sound-in-range s k)) (r .memory)
+        (omega (arith, r .deliveries, length-drop (headerEnd h) (a .octets))) (k .ports-long) (k .lengths-long))
     go false = record { octets = []; are = refl; count = refl }
 
 -- ---- the frame
 
-none-counted : (s next : Station) (delay : ℕ) (lent : Lent) (answer : Answer)
-    → Counted s delay lent (record { outcome = record { answer = answer; station = next; records = 0; replies = 0; bytes = 0 }; lent = lent })
-none-counted s next delay lent answer = record { numbers = []; plan = refl; records = refl; replies = refl; octets = []; deliveries = refl; bytes = refl }
+none-counted : (s next : Station) (a : Arrival) (lent : Lent) (answer : Answer) → Counted s a lent (refused answer next lent)
+none-counted s next a lent answer = record { numbers = []; plan = refl; records = refl; replies = refl; octets = []; deliveries = refl; bytes = refl }
 
-handled-counted : (s : Station) (h : Hlend) (f : List ℕ) (delay : ℕ) (lent : Lent) → Sound s → Room (length f) lent → Counted s delay lent (handled s h f delay lent)
+handled-counted : (s : Station) (h : Hlend) (a : Arrival) (lent : Lent) → Sound s → Room a lent → Counted s a lent (handled s h a lent)
 unfolding handled done repliesIn
-handled-counted s h f delay lent k r =
-    let d = payload-delivers s h f lent k r in
+handled-counted s h a lent k r =
+    let d = payload-delivers s h a lent k r in
     record {
-      numbers = plan.numbers (plannedIn s h f);
+      numbers = plan.numbers (plannedIn s h a);
       plan = refl;
-      records = length-numbers (plannedIn s h f);
+      records = length-numbers (plannedIn s h a);
       replies = refl;
       octets = d .octets;
       deliveries = d .are;
       bytes = d .count;
     }
 
-pub frame-counted : (s : Station) (f : List ℕ) (delay : ℕ) (lent : Lent) → Sound s → Counted s delay lent (frameLeft s f delay lent)
+pub frame-counted : (s : Station) (a : Arrival) (lent : Lent) → Sound s → Counted s a lent (frameLeft s a lent)
 unfolding frameLeft
-frame-counted s f delay lent k = go (inRange s) (lengthFits (length f)) (buffersFit (length f) lent) refl
+frame-counted s a lent k = go (opening s (a .octets) (buffersFit a lent)) refl
   where
-    by : Room (length f) lent → (x : Found Hlend) → Counted s delay lent (byHlend x s f delay lent)
-    by r unreadable = none-counted s _ delay lent HlendUnreadable
-    by r short = none-counted s _ delay lent HlendUnreadable
-    by r (fields h) = fits (leb (headerEnd h) (length f))
-      where
-        fits : (b : Bool) → Counted s delay lent (cond b (handled s h f delay lent) (unread HeaderTooLong s lent))
-        fits true = handled-counted s h f delay lent k r
-        fits false = none-counted s _ delay lent HeaderTooLong
-
-    go
-        : (a b c : Bool) → buffersFit (length f) lent ≡ c
-        → Counted s delay lent (cond (not a) (refused StateOutOfRange s lent) (cond (not b) (refused FrameLengthUnfit s lent) (cond (not c) (refused BufferTooShort s lent) (byHlend (readHlend f) s f delay lent))))
-    go false b c e = none-counted s s delay lent StateOutOfRange
-    go true false c e = none-counted s s delay lent FrameLengthUnfit
-    go true true false e = none-counted s s delay lent BufferTooShort
-    go true true true e = by (room (length f) lent e) (readHlend f)
+    go : (o : Opening) → opening s (a .octets) (buffersFit a lent) ≡ o → Counted s a lent (byOpening o s a lent)
+    go (Refused answer) e = none-counted s _ a lent answer
+    go (Unread answer) e = none-counted s _ a lent answer
+    go (Opened h) e = handled-counted s h a lent k (room a lent (opened s (a .octets) (buffersFit a lent) h e .buffers))

@@ -3,24 +3,23 @@
 use Prim.Native.Nat.{ℕ}
 use mathlib.Core.Path.{_≡_, _∙_, sym, ap}
 use mathlib.Core.List.{List}
-use Rattle.ids.specs.declared.PortId.{PortId}
 use Rattle.station.specs.declared.Station.{Station}
-use Rattle.host.specs.declared.Outcome as host
-use Rattle.arrival.specs.declared.Outcome.{Outcome}
-use Rattle.engine.specs.declared.alone.StretchPlace.{StretchPlace}
-use Rattle.arrival.specs.Lengths.{Lent}
-use Rattle.arrival.specs.Frame.{Left, FrameLeaves}
-use Rattle.engine.specs.Times.{LostLeaves}
+use Rattle.station.specs.declared.answers.Outcome.{Outcome}
+use Rattle.frame.specs.declared.FrameOutcome.{FrameOutcome}
+use Rattle.engine.specs.declared.stretching.StretchPlace.{StretchPlace}
+use Rattle.frame.specs.Given.{Arrival, Lent}
+use Rattle.frame.specs.Frame.{FrameLeft, FrameLeaves}
+use Rattle.engine.specs.Lods.{LostLeaves}
 use Rattle.engine.specs.Stretch.{PlaceIs, StretchIs}
 
 pub frame-determined
-    : (s : Station) (f : List ℕ) (delay : ℕ) (lent : Lent) (a b : Outcome) (x y : Lent) → FrameLeaves s f delay lent a x → FrameLeaves s f delay lent b y
+    : (s : Station) (arrived : Arrival) (lent : Lent) (a b : FrameOutcome) (x y : Lent) → FrameLeaves s arrived lent a x → FrameLeaves s arrived lent b y
     → (a ≡ b) × (x ≡ y)
-frame-determined s f delay lent a b x y p q =
+frame-determined s arrived lent a b x y p q =
     let same = p ∙ sym q in
-    (ap (λ (l : Left). l .outcome) same, ap (λ (l : Left). l .lent) same)
+    (ap (λ (l : FrameLeft). record { outcome = l .outcome; counts = l .counts }) same, ap (λ (l : FrameLeft). l .lent) same)
 
-pub lost-determined : (s : Station) (a b : host.Outcome) → LostLeaves s a → LostLeaves s b → a ≡ b
+pub lost-determined : (s : Station) (a b : Outcome) → LostLeaves s a → LostLeaves s b → a ≡ b
 lost-determined s a b p q = p ∙ sym q
 
 pub place-determined : (s : Station) (f : List ℕ) (k : ℕ) (a b : StretchPlace) → PlaceIs s f k a → PlaceIs s f k b → a ≡ b

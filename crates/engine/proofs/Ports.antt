@@ -7,27 +7,27 @@ use mathlib.Core.Bool.{Bool, true, false, not, cond, _&&_, _||_, false≢true}
 use mathlib.Core.List.{List, [], _∷_}
 use lib.Dec.{eqb, leb, ltb}
 use lib.ListN.{length, getD, set, length-set}
-use lib.Seq.{getD-set-same, getD-set-other}
+use lib.Seq.{getD-set-same, getD-set-other, set-getD}
 use borrow.Author.Tests.{eqb-true, eqb-false, leb-true, ltb-false, le-leb, ne-eqb}
 use Rattle.ids.specs.declared.PortId.{PortId}
 use Rattle.ids.specs.Ids.{assignablePort, samePort}
 use Rattle.ids.specs.declared.Place.{Place}
 use Rattle.ids.specs.declared.Place.the-variants.{At, Nowhere}
 use Rattle.ports.specs.declared.Ports.{Ports}
-use Rattle.ports.specs.Limits.{addedPorts, slots, slotBytes}
+use Rattle.ports.specs.Limits.{addedPorts, slots, slotBytes, sduBytes}
 use Rattle.ids.specs.Places.{Below, placeFrom}
-use Rattle.ports.specs.Ports.{noPort, dropOne, dropAll}
-use Rattle.ranges.specs.Ranges.{portsFit, emptySlot, partialFits, slotFits, partialsFit}
-use Rattle.ranges.proofs.Tests.{both}
-use Rattle.ranges.proofs.Every.{every-get, every-make}
-use Rattle.conduct.proofs.Slots.{all-wait}
-use Rattle.fragments.specs.declared.Effect.{Effect}
-use Rattle.fragments.specs.declared.Effect.the-variants.{Nothing, Discard, Deliver, Append}
-use Rattle.fragments.specs.Fragments.{behind, slotIn, slotOf, atSlot, atPlace, effectOf}
-use Rattle.fragments.proofs.Effects.{slot-below}
+use Rattle.ports.specs.Ports.{noPort, portsOf, dropOne, dropAll, appended, delivered}
+use Rattle.validity.specs.Ranges.{portsFit, emptySlot, partialFits, slotFits, partialsFit}
+use Rattle.validity.proofs.Tests.{both}
+use Rattle.validity.proofs.Every.{every-get, every-make}
+use Rattle.invariants.proofs.Slots.{all-wait}
+use Rattle.fragments.specs.declared.Reassembly.the-variants.{Ignored, Dropped, Delivered, Appended}
+use Rattle.fragments.specs.Fragments.{behind, slotIn, slotOf, atSlot, atPlace, reassemblyOf, portsAfter}
+use Rattle.fragments.proofs.Decided.{slot-in-range}
 use Rattle.payload.specs.Frames.{Xgem, parse}
-use Rattle.payload.specs.Memory.{Receiver, after, taken, done, step}
+use Rattle.payload.specs.Memory.{Receiver, step}
 use Rattle.payload.specs.Walk.{steps, endedBy, leftBy, walkOf}
+use Rattle.payload.proofs.Steps.{ports-taken}
 
 pub record Fine (p : Ports) : Type 0 where
   pub ids : length (p .ids) ≡ addedPorts
@@ -79,7 +79,7 @@ dropped p i waits q f =
     here = rw (getD-set-same (p .lengths) i 0 0 (omega (arith, f .lengths))) (holds-nothing (getD (set (p .waiting) i waits) i false) (emptySlot (p .ids) i))
 
 added : (p : Ports) (i n : ℕ) → i < slots → n ≤ slotBytes → getD (p .waiting) i false ≡ false → emptySlot (p .ids) i ≡ false → Fine p
-    → Fine (record { ids = p .ids; lengths = set (p .lengths) i n; waiting = p .waiting })
+    → Fine (appended p i n)
 unfolding slotFits partialFits
 added p i n q most clear there f =
     record {
@@ -93,6 +93,13 @@ added p i n q most clear there f =
   where
     here : slotFits (p .ids) (set (p .lengths) i n) (p .waiting) i ≡ true
     here = rw (getD-set-same (p .lengths) i n 0 (omega (arith, f .lengths)), clear, there) (le-leb n slotBytes most)
+
+-- a port that delivers did not wait before
+finished : (p : Ports) (i : ℕ) → i < slots → getD (p .waiting) i false ≡ false → Fine p → Fine (delivered p i)
+finished p i q clear f = subst (λ (w : List Bool). Fine (portsOf (p .ids) (set (p .lengths) i 0) w)) same (dropped p i false q f)
+  where
+    same : set (p .waiting) i false ≡ p .waiting
+    same = ap (set (p .waiting) i) (sym clear) ∙ set-getD (p .waiting) i false
 
 -- ---- a slot that a port has is not empty
 
@@ -145,38 +152,38 @@ taken-slot ids own port i e = go (assignablePort port) refl e
 
 at-slot
     : (p : Ports) (i n : ℕ) (last : Bool) → i < slots → emptySlot (p .ids) i ≡ false → Fine p
-    → Fine (after p (atSlot i (getD (p .waiting) i false) (getD (p .lengths) i 0) last n) n)
-at-slot p i n last q there f = go (getD (p .waiting) i false) refl (ltb slotBytes (getD (p .lengths) i 0 + n)) refl last
+    → Fine (portsAfter p (atSlot i (getD (p .waiting) i false) (getD (p .lengths) i 0) last n) n)
+at-slot p i n last q there f = go (getD (p .waiting) i false) refl (ltb sduBytes (getD (p .lengths) i 0 + n)) refl last
   where
     have : ℕ
     have = getD (p .lengths) i 0
 
     go
-        : (w : Bool) → getD (p .waiting) i false ≡ w → (o : Bool) → ltb slotBytes (getD (p .lengths) i 0 + n) ≡ o → (l : Bool)
-        → Fine (after p (cond w (Discard i (not l)) (cond o (Discard i (not l)) (cond l (Deliver i (getD (p .lengths) i 0)) (Append i (getD (p .lengths) i 0))))) n)
+        : (w : Bool) → getD (p .waiting) i false ≡ w → (o : Bool) → ltb sduBytes (getD (p .lengths) i 0 + n) ≡ o → (l : Bool)
+        → Fine (portsAfter p (cond w (Dropped i (not l)) (cond o (Dropped i (not l)) (cond l (Delivered i (getD (p .lengths) i 0)) (Appended i (getD (p .lengths) i 0))))) n)
     go true a o b l = dropped p i (not l) q f
     go false a true b l = dropped p i (not l) q f
-    go false a false b true = dropped p i false q f
-    go false a false b false = added p i (getD (p .lengths) i 0 + n) q (ltb-false slotBytes (getD (p .lengths) i 0 + n) b) a there f
+    go false a false b true = finished p i q a f
+    go false a false b false = added p i (getD (p .lengths) i 0 + n) q (ltb-false sduBytes (getD (p .lengths) i 0 + n) b) a there f
 
-pub fragment-fine : (p : Ports) (own port : PortId) (last : Bool) (n : ℕ) → Fine p → Fine (after p (effectOf p own port last n) n)
+pub fragment-fine : (p : Ports) (own port : PortId) (last : Bool) (n : ℕ) → Fine p → Fine (portsAfter p (reassemblyOf p own port last n) n)
 fragment-fine p own port last n f = go (eqb n 0)
   where
-    placed : (x : Place) → slotOf p own port ≡ x → Below x slots → Fine (after p (atPlace p last n x) n)
+    placed : (x : Place) → slotOf p own port ≡ x → Below x slots → Fine (portsAfter p (atPlace (p .lengths) (p .waiting) last n x) n)
     placed (At i) e q = at-slot p i n last q (taken-slot (p .ids) own port i e) f
     placed Nowhere e q = f
 
-    go : (b : Bool) → Fine (after p (cond b Nothing (atPlace p last n (slotOf p own port))) n)
+    go : (b : Bool) → Fine (portsAfter p (cond b Ignored (atPlace (p .lengths) (p .waiting) last n (slotOf p own port))) n)
     go true = f
-    go false = placed (slotOf p own port) refl (slot-below p own port (f .ids))
+    go false = placed (slotOf p own port) refl (slot-in-range (p .ids) own port (f .ids))
 
 steps-fine : (own : PortId) (s : Receiver) (l : List Xgem) → Fine (s .ports) → Fine (steps own s l .ports)
-unfolding steps taken done
+unfolding steps
 steps-fine own s [] f = f
 steps-fine own s (x ∷ l) f = steps-fine own (step own s x) l (one-fine own s x f)
   where
     one-fine : (own : PortId) (s : Receiver) (x : Xgem) → Fine (s .ports) → Fine (step own s x .ports)
-    one-fine own s x f = fragment-fine (s .ports) own (x .port) (x .last) (length (x .body)) f
+    one-fine own s x f = rw (ports-taken own s (x .port) (x .last) (x .body)) (fragment-fine (s .ports) own (x .port) (x .last) (length (x .body)) f)
 
 ended-fine : (lost : Bool) (s : Receiver) → Fine (s .ports) → Fine (endedBy lost s .ports)
 unfolding endedBy

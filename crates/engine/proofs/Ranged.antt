@@ -2,40 +2,38 @@
 -- Assumes nothing.
 use Prim.Native.Nat.{ℕ, zero, suc, _+_, _-_, _<_}
 use native.Mathlib.Omega.{arith}
-use mathlib.Core.Path.{_≡_, refl}
 use mathlib.Core.Bool.{Bool, true, false, not, cond}
 use mathlib.Core.List.{List}
-use lib.Dec.{leb}
-use lib.ListN.{length}
 use borrow.Author.Tests.{le-leb, leb-true}
 use Rattle.ids.specs.Ids.{managementPort}
 use Rattle.xgtc.specs.declared.hlend.Hlend.{Hlend}
-use Rattle.framing.specs.Reads.{Found, fields, unreadable, short}
-use Rattle.xgtc.specs.Reads.{readHlend}
 use Rattle.station.specs.declared.Station.{Station}
-use Rattle.station.specs.declared.answers.Answer.the-variants.{Done, StateOutOfRange, FrameLengthUnfit, BufferTooShort, HeaderTooLong}
+use Rattle.station.specs.declared.answers.Answer.the-variants.{Done, StateOutOfRange}
+use Rattle.station.specs.declared.answers.Outcome.{Outcome}
+use Rattle.station.specs.States.{isOperating, isRanging}
 use Rattle.station.specs.Limits.{upstreamWords}
 use Rattle.station.specs.Station.{withCarried}
-use Rattle.ranges.specs.Ranges.{inRange}
+use Rattle.validity.specs.Ranges.{inRange}
 use Rattle.timing.specs.Timing.{lostTime}
-use Rattle.host.specs.declared.Outcome as host
-use Rattle.activation.specs.Receiving.{receiveAll, messagesIn}
-use Rattle.activation.specs.Replying.{afterReply}
-use Rattle.replies.specs.Replies as replied
+use Rattle.messages.specs.Receiving.{messagesIn}
+use Rattle.replies.specs.Replying.{afterReply}
 use Rattle.replies.specs.Replies.{inPlace, repliesFrom}
-use Rattle.series.specs.Series.{Series, plannedOf, lastEnd, carriedOver}
-use Rattle.bwmap.specs.Plan.{messages}
+use Rattle.series.specs.Series.{plannedOf, lastEnd, carriedOver}
+use Rattle.plan.specs.Plan.{messages}
 use Rattle.bwmap.proofs.Kept.{carried-most}
-use Rattle.conduct.proofs.InRange.{Sound}
-use Rattle.conduct.proofs.InRangeTimes.{frame-end-sound, lost-sound, unread-sound}
-use Rattle.conduct.proofs.InRangeMessages.{messages-sound, reply-sound}
-use Rattle.conduct.proofs.InRangeHost.{with-ports-sound}
+use Rattle.invariants.proofs.InRange.{Sound}
+use Rattle.invariants.proofs.InRangeTimes.{frame-end-sound, lost-sound, unread-sound}
+use Rattle.invariants.proofs.InRangeMessages.{messages-sound, reply-sound}
+use Rattle.invariants.proofs.InRangeHost.{with-ports-sound}
 use Rattle.payload.specs.declared.walk.Delineation.the-variants.{Kept}
 use Rattle.payload.specs.Walk.{walkOf}
-use Rattle.arrival.specs.Lengths.{Lent, lengthFits, buffersFit}
-use Rattle.arrival.specs.Partitions.{headerEnd, mapOf, messagesOf, payloadOf}
-use Rattle.arrival.specs.Frame.{Left, isOperating, isRanging, ownOf, refused, unread, plannedIn, repliesIn, payloadIn, sentBy, next, done, handled, byHlend, frameLeft}
-use Rattle.engine.specs.Times.{lostLeft}
+use Rattle.downstream.specs.declared.Opening.{Opening}
+use Rattle.downstream.specs.declared.Opening.the-variants.{Refused, Unread, Opened}
+use Rattle.downstream.specs.Partitions.{headerEnd, mapOf, messagesOf, payloadOf}
+use Rattle.downstream.specs.Opening.{opening}
+use Rattle.frame.specs.Given.{Arrival, Lent, buffersFit}
+use Rattle.frame.specs.Frame.{ownOf, plannedIn, repliesIn, payloadIn, foundBy, next, done, handled, byOpening, frameLeft}
+use Rattle.engine.specs.Lods.{lostLeft}
 use Rattle.engine.proofs.Ports.{Fine, walk-fine}
 
 fine-of : (s : Station) → Sound s → Fine (s .ports)
@@ -66,51 +64,39 @@ replies-sound s delay b i (suc k) f = replies-sound (afterReply s) delay (inPlac
 pub carried-low : (s : Station) → Sound s → s .carried < upstreamWords
 carried-low s f = omega (arith, leb-true (s .carried) (upstreamWords - 1) (f .carried))
 
-payload-fine : (s : Station) (h : Hlend) (f : List ℕ) (lent : Lent) → Fine (s .ports) → Fine (payloadIn s h f lent .receiver .ports)
+payload-fine : (s : Station) (h : Hlend) (a : Arrival) (lent : Lent) → Fine (s .ports) → Fine (payloadIn s h a lent .receiver .ports)
 unfolding payloadIn
-payload-fine s h f lent k = go (isOperating (s .activation))
+payload-fine s h a lent k = go (isOperating (s .activation))
   where
     go
         : (b : Bool)
-        → Fine (cond b (walkOf (managementPort (s .link .onu)) (record { ports = s .ports; bytes = 0; memory = lent .memory; deliveries = lent .deliveries }) (headerEnd h) (payloadOf h f)) (record { receiver = record { ports = s .ports; bytes = 0; memory = lent .memory; deliveries = lent .deliveries }; delineation = Kept }) .receiver .ports)
-    go true = walk-fine (managementPort (s .link .onu)) (record { ports = s .ports; bytes = 0; memory = lent .memory; deliveries = lent .deliveries }) (headerEnd h) (payloadOf h f) k
+        → Fine (cond b (walkOf (managementPort (s .link .onu)) (record { ports = s .ports; bytes = 0; memory = lent .memory; deliveries = lent .deliveries }) (headerEnd h) (payloadOf h (a .octets))) (record { receiver = record { ports = s .ports; bytes = 0; memory = lent .memory; deliveries = lent .deliveries }; delineation = Kept }) .receiver .ports)
+    go true = walk-fine (managementPort (s .link .onu)) (record { ports = s .ports; bytes = 0; memory = lent .memory; deliveries = lent .deliveries }) (headerEnd h) (payloadOf h (a .octets)) k
     go false = k
 
-handled-sound : (s : Station) (h : Hlend) (f : List ℕ) (delay : ℕ) (lent : Lent) → Sound s → Sound (handled s h f delay lent .outcome .station)
-unfolding handled done sentBy next plannedIn repliesIn
-handled-sound s h f delay lent k =
-    let l = plannedOf (ownOf s) (mapOf h f) (s .carried) in
-    let sent = replies-sound s delay (lent .replies) 0 (messages l) k in
-    let p = payload-fine s h f lent (fine-of s k) in
-    let ported = with-ports-sound _ (payloadIn s h f lent .receiver .ports) (p .ids) (p .lengths) (p .waiting) (p .held) (p .partials) sent in
-    let found = carried-sound _ (carriedOver (lastEnd (s .carried) l)) (carried-most (ownOf s) (mapOf h f) (s .carried) (carried-low s k)) ported in
-    frame-end-sound _ (isRanging (s .activation)) (messages-sound _ (messagesIn (messagesOf h f)) found)
+handled-sound : (s : Station) (h : Hlend) (a : Arrival) (lent : Lent) → Sound s → Sound (handled s h a lent .outcome .station)
+unfolding handled done foundBy next plannedIn repliesIn
+handled-sound s h a lent k =
+    let l = plannedOf (ownOf s) (mapOf h (a .octets)) (s .carried) in
+    let sent = replies-sound s (a .randomDelay) (lent .replies) 0 (messages l) k in
+    let p = payload-fine s h a lent (fine-of s k) in
+    let ported = with-ports-sound _ (payloadIn s h a lent .receiver .ports) (p .ids) (p .lengths) (p .waiting) (p .held) (p .partials) sent in
+    let found = carried-sound _ (carriedOver (lastEnd (s .carried) l)) (carried-most (ownOf s) (mapOf h (a .octets)) (s .carried) (carried-low s k)) ported in
+    frame-end-sound _ (isRanging (s .activation)) (messages-sound _ (messagesIn (messagesOf h (a .octets))) found)
 
-pub frame-sound : (s : Station) (f : List ℕ) (delay : ℕ) (lent : Lent) → Sound s → Sound (frameLeft s f delay lent .outcome .station)
+pub frame-sound : (s : Station) (a : Arrival) (lent : Lent) → Sound s → Sound (frameLeft s a lent .outcome .station)
 unfolding frameLeft
-frame-sound s f delay lent k = go (inRange s) (lengthFits (length f)) (buffersFit (length f) lent)
+frame-sound s a lent k = go (opening s (a .octets) (buffersFit a lent))
   where
-    by : (r : Found Hlend) → Sound (byHlend r s f delay lent .outcome .station)
-    by unreadable = unread-sound s k
-    by short = unread-sound s k
-    by (fields h) = fits (leb (headerEnd h) (length f))
-      where
-        fits : (b : Bool) → Sound (cond b (handled s h f delay lent) (unread HeaderTooLong s lent) .outcome .station)
-        fits true = handled-sound s h f delay lent k
-        fits false = unread-sound s k
-
-    go
-        : (a b c : Bool)
-        → Sound (cond (not a) (refused StateOutOfRange s lent) (cond (not b) (refused FrameLengthUnfit s lent) (cond (not c) (refused BufferTooShort s lent) (byHlend (readHlend f) s f delay lent))) .outcome .station)
-    go false b c = k
-    go true false c = k
-    go true true false = k
-    go true true true = by (readHlend f)
+    go : (o : Opening) → Sound (byOpening o s a lent .outcome .station)
+    go (Refused answer) = k
+    go (Unread answer) = unread-sound s k
+    go (Opened h) = handled-sound s h a lent k
 
 pub lost-call-sound : (s : Station) → Sound s → Sound (lostLeft s .station)
 unfolding lostLeft
 lost-call-sound s k = go (inRange s)
   where
-    go : (b : Bool) → Sound (cond {A = host.Outcome} (not b) (record { answer = StateOutOfRange; station = s }) (record { answer = Done; station = lostTime s }) .station)
+    go : (b : Bool) → Sound (cond {A = Outcome} (not b) (record { answer = StateOutOfRange; station = s }) (record { answer = Done; station = lostTime s }) .station)
     go true = lost-sound s k
     go false = k

@@ -1,40 +1,40 @@
 -- Past the last reply the reply buffer keeps its octets.
 -- Assumes nothing.
-use Prim.Native.Nat.{ℕ, zero, suc, _+_, _-_, _*_, _≤_}
+use Prim.Native.Nat.{ℕ, zero, suc, _+_, _*_, _≤_}
 use native.Mathlib.Omega.{arith}
 use mathlib.Core.Path.{_≡_, _∙_, refl, sym, ap, subst}
-use mathlib.Core.Bool.{Bool, true, false, not, cond, _&&_}
-use mathlib.Core.List.{List, [], _∷_, _++_}
+use mathlib.Core.Bool.{Bool, true, false, cond, _&&_}
+use mathlib.Core.List.{List, _++_}
 use lib.Dec.{leb}
 use lib.ListN.{length, take, drop, length-take, length-drop, length-append}
 use lib.Seq.{drop-drop, drop-at}
 use Rattle.xgtc.specs.declared.hlend.Hlend.{Hlend}
-use Rattle.framing.specs.Reads.{Found, fields, unreadable, short}
-use Rattle.xgtc.specs.Reads.{readHlend}
 use Rattle.ploam.specs.Layout.{messageOctets}
 use Rattle.integrity.specs.Integrity.{micOf, keyFor}
 use Rattle.integrity.specs.declared.Direction.the-variants.{Upstream}
 use Rattle.integrity.proofs.Signed.{mic-length}
-use Rattle.upstream.specs.Upstream.{upstreamAddress, upstreamType, upstreamOctets, fitting}
-use Rattle.upstream.specs.Writing.{Outcome, laid, written}
-use Rattle.upstream.specs.declared.Written.the-variants.{Done, Unfit}
-use Rattle.upstream.proofs.RoundTrip.{octets-length}
+use Rattle.ploamu.specs.Upstream.{upstreamAddress, upstreamType, upstreamOctets, fitting}
+use Rattle.ploamu.specs.Writing.{MessageLeft, laid, written}
+use Rattle.ploamu.specs.declared.Written.the-variants.{Done, Unfit}
+use Rattle.ploamu.proofs.RoundTrip.{octets-length}
 use Rattle.station.specs.declared.Activation.{Activation}
 use Rattle.station.specs.declared.Activation.the-variants.{Initial, SerialNumber, Ranging, Operation, Intermittent, EmergencyStop}
 use Rattle.station.specs.declared.Station.{Station}
-use Rattle.station.specs.declared.answers.Answer.the-variants.{StateOutOfRange, FrameLengthUnfit, BufferTooShort, HeaderTooLong}
 use Rattle.station.specs.Limits.{registrationOctets}
-use Rattle.ranges.specs.Ranges.{inRange}
-use Rattle.activation.specs.Replying.{replyOf, afterIn, afterReply}
-use Rattle.activation.specs.declared.replying.Reply.{Reply}
-use Rattle.activation.specs.declared.replying.Reply.the-variants.{Silent, Says}
+use Rattle.replies.specs.Replying.{replyOf, afterIn, afterReply}
+use Rattle.replies.specs.declared.replying.Reply.{Reply}
+use Rattle.replies.specs.declared.replying.Reply.the-variants.{Silent, Says}
 use Rattle.replies.specs.Replies.{keyOf, said, wrote, inPlace, repliesFrom}
-use Rattle.bwmap.specs.Plan.{messages}
+use Rattle.plan.specs.Plan.{messages}
 use Rattle.bwmap.proofs.Kept.{bursts-most}
-use Rattle.arrival.specs.Lengths.{Lent, lengthFits, buffersFit}
-use Rattle.arrival.specs.Partitions.{headerEnd, mapOf}
-use Rattle.arrival.specs.Frame.{Left, ownOf, refused, unread, plannedIn, repliesIn, done, handled, byHlend, frameLeft}
-use Rattle.arrival.proofs.Laws.{Room, room, messages-few}
+use Rattle.downstream.specs.declared.Opening.{Opening}
+use Rattle.downstream.specs.declared.Opening.the-variants.{Refused, Unread, Opened}
+use Rattle.downstream.specs.Partitions.{mapOf}
+use Rattle.downstream.specs.Opening.{opening}
+use Rattle.downstream.proofs.Laws.{opened}
+use Rattle.frame.specs.Given.{Arrival, Lent, buffersFit}
+use Rattle.frame.specs.Frame.{FrameLeft, ownOf, plannedIn, repliesIn, done, handled, byOpening, frameLeft}
+use Rattle.frame.proofs.Laws.{Room, room, messages-few}
 
 -- ---- a message has 48 octets
 
@@ -43,7 +43,7 @@ laid-long mic octets target fits m o t = go (fits && leb messageOctets (length t
   where
     go
         : (b : Bool)
-        → length (cond {A = Outcome} b (record { answer = Done; target = octets ++ mic ++ drop messageOctets target }) (record { answer = Unfit; target = target }) .target) ≡ messageOctets
+        → length (cond {A = MessageLeft} b (record { answer = Done; target = octets ++ mic ++ drop messageOctets target }) (record { answer = Unfit; target = target }) .target) ≡ messageOctets
     go true =
         let e : length ((octets ++ mic) ++ drop messageOctets target) ≡ messageOctets
         = omega (arith, length-append (octets ++ mic) (drop messageOctets target), length-append octets mic, length-drop messageOctets target) in
@@ -117,37 +117,25 @@ replies-past s delay b i (suc k) r h =
 
 -- ---- the frame
 
-Kept : Lent → Left → Type 0
-Kept lent left = drop (messageOctets * left .outcome .replies) (left .lent .replies) ≡ drop (messageOctets * left .outcome .replies) (lent .replies)
+Kept : Lent → FrameLeft → Type 0
+Kept lent left = drop (messageOctets * left .counts .replies) (left .lent .replies) ≡ drop (messageOctets * left .counts .replies) (lent .replies)
 
-handled-kept : (s : Station) (h : Hlend) (f : List ℕ) (delay : ℕ) (lent : Lent) → length (s .registration) ≡ registrationOctets → Room (length f) lent → Kept lent (handled s h f delay lent)
+handled-kept : (s : Station) (h : Hlend) (a : Arrival) (lent : Lent) → length (s .registration) ≡ registrationOctets → Room a lent → Kept lent (handled s h a lent)
 unfolding Kept handled done repliesIn plannedIn
-handled-kept s h f delay lent r m =
-    let z : 0 + messages (plannedIn s h f) ≡ messages (plannedIn s h f) = omega arith in
-    subst (λ (n : ℕ). drop (messageOctets * n) (repliesFrom s delay (lent .replies) 0 (messages (plannedIn s h f)) .octets) ≡ drop (messageOctets * n) (lent .replies)) z
-    (replies-past s delay (lent .replies) 0 (messages (plannedIn s h f)) r
-    (omega (arith, m .replies, messages-few (plannedIn s h f), bursts-most (ownOf s) (mapOf h f) (s .carried))))
+handled-kept s h a lent r m =
+    let z : 0 + messages (plannedIn s h a) ≡ messages (plannedIn s h a) = omega arith in
+    subst (λ (n : ℕ). drop (messageOctets * n) (repliesFrom s (a .randomDelay) (lent .replies) 0 (messages (plannedIn s h a)) .octets) ≡ drop (messageOctets * n) (lent .replies)) z
+    (replies-past s (a .randomDelay) (lent .replies) 0 (messages (plannedIn s h a)) r
+    (omega (arith, m .replies, messages-few (plannedIn s h a), bursts-most (ownOf s) (mapOf h (a .octets)) (s .carried))))
 
 pub frame-replies-kept
-    : (s : Station) (f : List ℕ) (delay : ℕ) (lent : Lent) → length (s .registration) ≡ registrationOctets
-    → drop (messageOctets * frameLeft s f delay lent .outcome .replies) (frameLeft s f delay lent .lent .replies)
-    ≡ drop (messageOctets * frameLeft s f delay lent .outcome .replies) (lent .replies)
+    : (s : Station) (a : Arrival) (lent : Lent) → length (s .registration) ≡ registrationOctets
+    → drop (messageOctets * frameLeft s a lent .counts .replies) (frameLeft s a lent .lent .replies)
+    ≡ drop (messageOctets * frameLeft s a lent .counts .replies) (lent .replies)
 unfolding Kept frameLeft
-frame-replies-kept s f delay lent r = go (inRange s) (lengthFits (length f)) (buffersFit (length f) lent) refl
+frame-replies-kept s a lent r = go (opening s (a .octets) (buffersFit a lent)) refl
   where
-    by : Room (length f) lent → (x : Found Hlend) → Kept lent (byHlend x s f delay lent)
-    by m unreadable = refl
-    by m short = refl
-    by m (fields h) = fits (leb (headerEnd h) (length f))
-      where
-        fits : (b : Bool) → Kept lent (cond b (handled s h f delay lent) (unread HeaderTooLong s lent))
-        fits true = handled-kept s h f delay lent r m
-        fits false = refl
-
-    go
-        : (a b c : Bool) → buffersFit (length f) lent ≡ c
-        → Kept lent (cond (not a) (refused StateOutOfRange s lent) (cond (not b) (refused FrameLengthUnfit s lent) (cond (not c) (refused BufferTooShort s lent) (byHlend (readHlend f) s f delay lent))))
-    go false b c e = refl
-    go true false c e = refl
-    go true true false e = refl
-    go true true true e = by (room (length f) lent e) (readHlend f)
+    go : (o : Opening) → opening s (a .octets) (buffersFit a lent) ≡ o → Kept lent (byOpening o s a lent)
+    go (Refused answer) e = refl
+    go (Unread answer) e = refl
+    go (Opened h) e = handled-kept s h a lent r (room a lent (opened s (a .octets) (buffersFit a lent) h e .buffers))

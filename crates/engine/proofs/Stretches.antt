@@ -3,39 +3,37 @@
 use Prim.Native.Nat.{ℕ, zero, suc, _+_, _-_, _≤_}
 use native.Mathlib.Omega.{arith}
 use mathlib.Core.Path.{_≡_, _∙_, refl, sym, ap, subst}
-use mathlib.Core.Bool.{Bool, true, false, not, cond}
+use mathlib.Core.Bool.{Bool, true, false, cond}
 use mathlib.Core.List.{List, [], _∷_, _++_}
-use lib.Dec.{eqb, leb}
-use lib.ListN.{length, getD, take, drop, length-take, length-drop}
+use lib.Dec.{eqb}
+use lib.ListN.{length, getD, drop, length-take, length-drop}
 use lib.Seq.{drop-drop}
-use borrow.Author.Tests.{le-leb, leb-true}
+use borrow.Author.Tests.{le-leb}
 use Rattle.ids.specs.declared.PortId.{PortId}
 use Rattle.ids.specs.Ids.{managementPort}
 use Rattle.xgtc.specs.declared.hlend.Hlend.{Hlend}
-use Rattle.framing.specs.declared.xgem.XgemHeader.{XgemHeader}
-use Rattle.framing.specs.Layouts.{payloadSize}
-use Rattle.framing.proofs.Frames.{covers}
+use Rattle.xgem.specs.Layouts.{payloadSize}
+use Rattle.xgem.proofs.Frames.{covers}
 use Rattle.station.specs.declared.Station.{Station}
 use Rattle.ports.specs.declared.Ports.{Ports}
-use Rattle.fragments.specs.declared.Effect.{Effect}
-use Rattle.fragments.specs.declared.Effect.the-variants.{Nothing, Discard, Deliver, Append}
-use Rattle.fragments.specs.Fragments.{effectOf}
+use Rattle.fragments.specs.declared.Reassembly.{Reassembly}
+use Rattle.fragments.specs.declared.Reassembly.the-variants.{Ignored, Dropped, Delivered, Appended}
+use Rattle.fragments.specs.Fragments.{reassemblyOf, portsAfter}
 use Rattle.payload.specs.declared.frames.Next.{Next}
 use Rattle.payload.specs.declared.frames.Next.the-variants.{Done as NoMore, Lost, Frame}
 use Rattle.stretches.specs.declared.Extent.{Extent}
 use Rattle.stretches.specs.declared.StretchPlace as found
 use Rattle.payload.specs.Frames.{Xgem, nextOf, parse}
-use Rattle.payload.specs.Memory.{after}
 use Rattle.stretches.specs.Stretch.{noExtent, aloneAt, stretches, stretchOf, cutOut}
-use Rattle.arrival.specs.Partitions.{headerEnd, payloadOf}
-use Rattle.arrival.specs.Frame.{isOperating}
-use Rattle.arrival.specs.Lengths.{lengthFits}
+use Rattle.downstream.specs.declared.Opening.{Opening}
+use Rattle.downstream.specs.declared.Opening.the-variants.{Refused, Unread, Opened}
+use Rattle.downstream.specs.Partitions.{headerEnd, payloadOf}
+use Rattle.downstream.specs.Opening.{opening}
+use Rattle.downstream.proofs.Laws.{opened}
 use Rattle.engine.specs.Stretch.{empty, answerIf, inFrame, placeIn, placeBy, stretchPlace, cut}
-use Rattle.engine.specs.declared.alone.StretchPlace.{StretchPlace}
-use Rattle.framing.specs.Reads.{Found, fields, unreadable, short}
-use Rattle.xgtc.specs.Reads.{readHlend}
-use Rattle.station.specs.declared.answers.Answer.the-variants.{Done, StateOutOfRange, FrameLengthUnfit, HeaderTooLong}
-use Rattle.ranges.specs.Ranges.{inRange}
+use Rattle.engine.specs.declared.stretching.StretchPlace.{StretchPlace}
+use Rattle.station.specs.declared.answers.Answer.the-variants.{Done}
+use Rattle.station.specs.States.{isOperating}
 use Rattle.payload.proofs.Walks.{frame-inside, parse-done, parse-lost, parse-next}
 
 abbrev AllInside : ℕ → List Xgem → Type 0
@@ -70,24 +68,24 @@ abbrev In : ℕ → Extent → Type 0
 In n t = t .at + t .bytes ≤ n
 
 in-on
-    : (n : ℕ) (e : Effect) (at m : ℕ) (ts : List Extent) → at + m ≤ n → ((k : ℕ) → In n (getD ts k noExtent))
+    : (n : ℕ) (e : Reassembly) (at m : ℕ) (ts : List Extent) → at + m ≤ n → ((k : ℕ) → In n (getD ts k noExtent))
     → (k : ℕ) → In n (getD (aloneAt e at m ++ ts) k noExtent)
-in-on n Nothing at m ts h ih k = ih k
-in-on n (Discard slot waits) at m ts h ih k = ih k
-in-on n (Deliver slot have) at m ts h ih zero = go (eqb have 0)
+in-on n Ignored at m ts h ih k = ih k
+in-on n (Dropped slot waits) at m ts h ih k = ih k
+in-on n (Delivered slot have) at m ts h ih zero = go (eqb have 0)
   where
     go : (b : Bool) → In n (cond b (record { at = at; bytes = m }) noExtent)
     go true = h
     go false = omega arith
-in-on n (Deliver slot have) at m ts h ih (suc k) = ih k
-in-on n (Append slot have) at m ts h ih k = ih k
+in-on n (Delivered slot have) at m ts h ih (suc k) = ih k
+in-on n (Appended slot have) at m ts h ih k = ih k
 
 in-all : (n : ℕ) (own : PortId) (p : Ports) (frames : List Xgem) → AllInside n frames → (k : ℕ) → In n (getD (stretches own p frames) k noExtent)
 unfolding stretches
 in-all n own p [] c k = omega arith
 in-all n own p (x ∷ rest) c k =
-    in-on n (effectOf p own (x .port) (x .last) (length (x .body))) (x .place + 8) (length (x .body)) _ (c .0)
-    (in-all n own (after p (effectOf p own (x .port) (x .last) (length (x .body))) (length (x .body))) rest (c .1)) k
+    in-on n (reassemblyOf p own (x .port) (x .last) (length (x .body))) (x .place + 8) (length (x .body)) _ (c .0)
+    (in-all n own (portsAfter p (reassemblyOf p own (x .port) (x .last) (length (x .body))) (length (x .body))) rest (c .1)) k
 
 -- the stretch of delivery k lies within the payload
 pub stretch-inside : (own : PortId) (p : Ports) (payload : List ℕ) (k : ℕ) → In (length payload) (stretchOf own p payload k .stretch)
@@ -134,23 +132,14 @@ within-place s h f k fits = go (isOperating (s .activation))
     go true = in-frame (headerEnd h) (length f) (stretchOf own (s .ports) (payloadOf h f) k) (placed-inside s h f k own (payloadOf h f) (stretchOf own (s .ports) (payloadOf h f) k) refl fits refl)
     go false = omega arith
 
-by-hlend : (r : Found Hlend) (s : Station) (f : List ℕ) (k : ℕ) → Within (length f) (placeBy r s f k)
-by-hlend unreadable s f k = omega arith
-by-hlend short s f k = omega arith
-by-hlend (fields h) s f k = go (leb (headerEnd h) (length f)) refl
-  where
-    go : (b : Bool) → leb (headerEnd h) (length f) ≡ b → Within (length f) (cond b (placeIn s h f k) (empty HeaderTooLong))
-    go true e = within-place s h f k (leb-true (headerEnd h) (length f) e)
-    go false e = omega arith
-
 pub within-frame : (s : Station) (f : List ℕ) (k : ℕ) → Within (length f) (stretchPlace s f k)
 unfolding stretchPlace
-within-frame s f k = first (inRange s) (lengthFits (length f))
+within-frame s f k = go (opening s f true) refl
   where
-    first : (a b : Bool) → Within (length f) (cond (not a) (empty StateOutOfRange) (cond (not b) (empty FrameLengthUnfit) (placeBy (readHlend f) s f k)))
-    first false b = omega arith
-    first true false = omega arith
-    first true true = by-hlend (readHlend f) s f k
+    go : (o : Opening) → opening s f true ≡ o → Within (length f) (placeBy o s f k)
+    go (Refused answer) e = omega arith
+    go (Unread answer) e = omega arith
+    go (Opened h) e = within-place s h f k (opened s f true h e .fits)
 
 pub cut-fully
     : (s : Station) (f : List ℕ) (k : ℕ) (p : StretchPlace) → p ≡ stretchPlace s f k

@@ -1,9 +1,8 @@
 -- The table of answers is exact: the frame call's number has its row, and a row that holds has the frame call's number.
 -- Assumes nothing.
-use Prim.Native.Nat.{ℕ, zero, suc, _≤_, _<_}
-use native.Mathlib.Omega.{arith}
+use Prim.Native.Nat.{ℕ, _≤_}
 use mathlib.Core.Path.{_≡_, _∙_, refl, sym, ap, subst}
-use mathlib.Core.Bool.{Bool, true, false, not, cond, _&&_, true≢false, false≢true}
+use mathlib.Core.Bool.{Bool, true, false, not, cond, _&&_, false≢true}
 use mathlib.Core.List.{List}
 use lib.Dec.{leb}
 use lib.ListN.{length, take}
@@ -11,23 +10,26 @@ use borrow.Author.Tests.{leb-true, leb-false, le-leb, lt-leb}
 use Rattle.ids.specs.Ids.{managementPort}
 use Rattle.xgtc.specs.declared.hlend.Hlend.{Hlend}
 use Rattle.hec.specs.Reads.{Reading, word, unreadable as unreadable-word, reading}
-use Rattle.framing.specs.Octets.{value}
+use Rattle.octets.specs.Octets.{value}
 use Rattle.xgtc.specs.Layouts.{hlendOf}
-use Rattle.framing.specs.Reads.{Found, fields, unreadable, short, taken}
+use Rattle.xgem.specs.Reads.{Found, fields, unreadable, short, taken}
 use Rattle.xgtc.specs.Reads.{readHlend}
 use Rattle.station.specs.declared.Station.{Station}
 use Rattle.station.specs.declared.answers.Answer.{Answer}
 use Rattle.station.specs.declared.answers.Answer.the-variants.{Done, StateOutOfRange, FrameLengthUnfit, BufferTooShort, HlendUnreadable, HeaderTooLong, DelineationLost, PortOutOfRange, PortHeldOrNotHeld, SlotsTaken, KeyRefused, NotWritten}
-use Rattle.station.specs.Answers.{answerNumber}
-use Rattle.ranges.specs.Ranges.{inRange}
-use Rattle.ranges.proofs.Tests.{both}
+use Rattle.station.specs.States.{isOperating}
+use Rattle.validity.specs.Ranges.{inRange}
+use Rattle.validity.proofs.Tests.{both}
 use Rattle.payload.specs.declared.walk.Delineation.the-variants.{Kept}
 use Rattle.payload.specs.Frames.{parse}
 use Rattle.payload.specs.Walk.{walkOf, leftBy, delineationOf}
-use Rattle.arrival.specs.Lengths.{Lent, lengthFits, buffersFit}
-use Rattle.arrival.specs.Partitions.{headerEnd, payloadOf}
-use Rattle.arrival.specs.Frame.{Left, isOperating, refused, unread, answerTo, payloadIn, done, handled, byHlend, frameLeft}
-use Rattle.engine.specs.Answers.{Passed, lostIn, TooLong, Handled, Row}
+use Rattle.downstream.specs.declared.Opening.the-variants.{Refused, Unread, Opened}
+use Rattle.downstream.specs.Lengths.{lengthFits}
+use Rattle.downstream.specs.Partitions.{headerEnd, payloadOf}
+use Rattle.downstream.specs.Opening.{byHlend, opening}
+use Rattle.frame.specs.Given.{Arrival, Lent, buffersFit}
+use Rattle.frame.specs.Frame.{FrameLeft, unread, answerTo, payloadIn, done, handled, byOpening, frameLeft}
+use Rattle.engine.specs.Answers.{Passed, lostIn, Handled, Row}
 
 -- ---- the answer of a frame that is done
 
@@ -35,15 +37,15 @@ answer-lost : (lost : Bool) → answerTo (delineationOf lost) ≡ cond lost Deli
 answer-lost true = refl
 answer-lost false = refl
 
-done-answer : (s : Station) (h : Hlend) (f : List ℕ) (delay : ℕ) (lent : Lent) → handled s h f delay lent .outcome .answer ≡ cond (lostIn s h f) DelineationLost Done
+done-answer : (s : Station) (h : Hlend) (a : Arrival) (lent : Lent) → handled s h a lent .outcome .answer ≡ cond (lostIn s h a) DelineationLost Done
 unfolding handled done payloadIn walkOf leftBy lostIn
-done-answer s h f delay lent = go (isOperating (s .activation))
+done-answer s h a lent = go (isOperating (s .activation))
   where
     go
         : (b : Bool)
-        → answerTo (cond b (walkOf (managementPort (s .link .onu)) (record { ports = s .ports; bytes = 0; memory = lent .memory; deliveries = lent .deliveries }) (headerEnd h) (payloadOf h f)) (record { receiver = record { ports = s .ports; bytes = 0; memory = lent .memory; deliveries = lent .deliveries }; delineation = Kept }) .delineation)
-        ≡ cond (b && parse (headerEnd h) (payloadOf h f) .lost) DelineationLost Done
-    go true = answer-lost (parse (headerEnd h) (payloadOf h f) .lost)
+        → answerTo (cond b (walkOf (managementPort (s .link .onu)) (record { ports = s .ports; bytes = 0; memory = lent .memory; deliveries = lent .deliveries }) (headerEnd h) (payloadOf h (a .octets))) (record { receiver = record { ports = s .ports; bytes = 0; memory = lent .memory; deliveries = lent .deliveries }; delineation = Kept }) .delineation)
+        ≡ cond (b && parse (headerEnd h) (payloadOf h (a .octets)) .lost) DelineationLost Done
+    go true = answer-lost (parse (headerEnd h) (payloadOf h (a .octets)) .lost)
     go false = refl
 
 -- a frame that passed answer 2 is not too short for HLend
@@ -62,71 +64,71 @@ not-short f h e = nowhere (reading 32 (value (take 4 f))) (rw (both (leb 4 (leng
 
 -- ---- the number has its row
 
-module _ (s : Station) (f : List ℕ) (delay : ℕ) (lent : Lent) where
+module _ (s : Station) (arrived : Arrival) (lent : Lent) where
   -- the row of what is left, by its own answer
-  abbrev Rowed : Left → Type 0
-  Rowed left = Row s f delay lent (left .outcome .answer) left
+  abbrev Rowed : FrameLeft → Type 0
+  Rowed left = Row s arrived lent (left .outcome .answer) left
 
-  handled-row : Passed s f lent → (h : Hlend) → readHlend f ≡ fields h → headerEnd h ≤ length f → Rowed (handled s h f delay lent)
-  handled-row p h e fits = subst (λ (a : Answer). Row s f delay lent a (handled s h f delay lent)) (sym (done-answer s h f delay lent)) (go (lostIn s h f) refl)
+  handled-row : Passed s arrived lent → (h : Hlend) → readHlend (arrived .octets) ≡ fields h → headerEnd h ≤ length (arrived .octets) → Rowed (handled s h arrived lent)
+  handled-row p h e fits = subst (λ (a : Answer). Row s arrived lent a (handled s h arrived lent)) (sym (done-answer s h arrived lent)) (go (lostIn s h arrived) refl)
     where
-      whole : (b : Bool) → lostIn s h f ≡ b → Handled s f delay lent b (handled s h f delay lent)
+      whole : (b : Bool) → lostIn s h arrived ≡ b → Handled s arrived lent b (handled s h arrived lent)
       whole b q = record { passed = p; hlend = h; reads = e; fits = fits; delineation = q; leaves = refl }
 
-      go : (b : Bool) → lostIn s h f ≡ b → Row s f delay lent (cond b DelineationLost Done) (handled s h f delay lent)
+      go : (b : Bool) → lostIn s h arrived ≡ b → Row s arrived lent (cond b DelineationLost Done) (handled s h arrived lent)
       go true q = whole true q
       go false q = whole false q
 
-  hlend-row : Passed s f lent → (r : Found Hlend) → readHlend f ≡ r → Rowed (byHlend r s f delay lent)
+  hlend-row : Passed s arrived lent → (r : Found Hlend) → readHlend (arrived .octets) ≡ r → Rowed (byOpening (byHlend r (length (arrived .octets))) s arrived lent)
   hlend-row p unreadable e = (p, e, refl)
-  hlend-row p short e = absurd (not-short f (p .frame) e)
-  hlend-row p (fields h) e = go (leb (headerEnd h) (length f)) refl
+  hlend-row p short e = absurd (not-short (arrived .octets) (p .frame) e)
+  hlend-row p (fields h) e = go (leb (headerEnd h) (length (arrived .octets))) refl
     where
-      go : (b : Bool) → leb (headerEnd h) (length f) ≡ b → Rowed (cond b (handled s h f delay lent) (unread HeaderTooLong s lent))
-      go true q = handled-row p h e (leb-true (headerEnd h) (length f) q)
-      go false q = (record { passed = p; hlend = h; reads = e; longer = leb-false (headerEnd h) (length f) q }, refl)
+      go : (b : Bool) → leb (headerEnd h) (length (arrived .octets)) ≡ b → Rowed (byOpening (cond b (Opened h) (Unread HeaderTooLong)) s arrived lent)
+      go true q = handled-row p h e (leb-true (headerEnd h) (length (arrived .octets)) q)
+      go false q = (record { passed = p; hlend = h; reads = e; longer = leb-false (headerEnd h) (length (arrived .octets)) q }, refl)
 
-  pub table : Row s f delay lent (frameLeft s f delay lent .outcome .answer) (frameLeft s f delay lent)
-  unfolding frameLeft
-  table = go (inRange s) refl (lengthFits (length f)) refl (buffersFit (length f) lent) refl
+  pub table : Row s arrived lent (frameLeft s arrived lent .outcome .answer) (frameLeft s arrived lent)
+  unfolding frameLeft opening
+  table = go (inRange s) refl (lengthFits (length (arrived .octets))) refl (buffersFit arrived lent) refl
     where
       go
-          : (a : Bool) → inRange s ≡ a → (b : Bool) → lengthFits (length f) ≡ b → (c : Bool) → buffersFit (length f) lent ≡ c
-          → Rowed (cond (not a) (refused StateOutOfRange s lent) (cond (not b) (refused FrameLengthUnfit s lent) (cond (not c) (refused BufferTooShort s lent) (byHlend (readHlend f) s f delay lent))))
+          : (a : Bool) → inRange s ≡ a → (b : Bool) → lengthFits (length (arrived .octets)) ≡ b → (c : Bool) → buffersFit arrived lent ≡ c
+          → Rowed (byOpening (cond (not a) (Refused StateOutOfRange) (cond (not b) (Refused FrameLengthUnfit) (cond (not c) (Refused BufferTooShort) (byHlend (readHlend (arrived .octets)) (length (arrived .octets)))))) s arrived lent)
       go false p b q c r = (p, refl)
       go true p false q c r = (p, q, refl)
       go true p true q false r = (p, q, r, refl)
-      go true p true q true r = hlend-row (record { state = p; frame = q; buffers = r }) (readHlend f) refl
+      go true p true q true r = hlend-row (record { state = p; frame = q; buffers = r }) (readHlend (arrived .octets)) refl
 
   -- ---- a row that holds is the frame call's
 
-  passed-on : Passed s f lent → byHlend (readHlend f) s f delay lent ≡ frameLeft s f delay lent
-  unfolding frameLeft
+  passed-on : Passed s arrived lent → byOpening (byHlend (readHlend (arrived .octets)) (length (arrived .octets))) s arrived lent ≡ frameLeft s arrived lent
+  unfolding frameLeft opening
   passed-on p = rw (p .state, p .frame, p .buffers)
 
-  by-fields : (h : Hlend) → readHlend f ≡ fields h → byHlend (fields h) s f delay lent ≡ byHlend (readHlend f) s f delay lent
-  by-fields h e = ap (λ (r : Found Hlend). byHlend r s f delay lent) (sym e)
+  by-fields : (h : Hlend) → readHlend (arrived .octets) ≡ fields h → byOpening (byHlend (fields h) (length (arrived .octets))) s arrived lent ≡ byOpening (byHlend (readHlend (arrived .octets)) (length (arrived .octets))) s arrived lent
+  by-fields h e = ap (λ (r : Found Hlend). byOpening (byHlend r (length (arrived .octets))) s arrived lent) (sym e)
 
-  handled-only : (lost : Bool) (left : Left) → Handled s f delay lent lost left
-      → (left ≡ frameLeft s f delay lent) × (left .outcome .answer ≡ cond lost DelineationLost Done)
+  handled-only : (lost : Bool) (left : FrameLeft) → Handled s arrived lent lost left
+      → (left ≡ frameLeft s arrived lent) × (left .outcome .answer ≡ cond lost DelineationLost Done)
   handled-only lost left r =
-      let fits : handled s (r .hlend) f delay lent ≡ byHlend (fields (r .hlend)) s f delay lent = rw (le-leb (headerEnd (r .hlend)) (length f) (r .fits)) in (
+      let fits : handled s (r .hlend) arrived lent ≡ byOpening (byHlend (fields (r .hlend)) (length (arrived .octets))) s arrived lent = rw (le-leb (headerEnd (r .hlend)) (length (arrived .octets)) (r .fits)) in (
         r .leaves ∙ fits ∙ by-fields (r .hlend) (r .reads) ∙ passed-on (r .passed),
-        ap (λ (x : Left). x .outcome .answer) (r .leaves) ∙ done-answer s (r .hlend) f delay lent ∙ ap (λ (b : Bool). cond b DelineationLost Done) (r .delineation),
+        ap (λ (x : FrameLeft). x .outcome .answer) (r .leaves) ∙ done-answer s (r .hlend) arrived lent ∙ ap (λ (b : Bool). cond b DelineationLost Done) (r .delineation),
       )
 
   pub only
-      : (a : Answer) (left : Left) → Row s f delay lent a left → (left ≡ frameLeft s f delay lent) × (left .outcome .answer ≡ a)
-  unfolding frameLeft
+      : (a : Answer) (left : FrameLeft) → Row s arrived lent a left → (left ≡ frameLeft s arrived lent) × (left .outcome .answer ≡ a)
+  unfolding frameLeft opening
   only Done left r = handled-only false left r
-  only StateOutOfRange left (p, e) = (e ∙ rw p, ap (λ (x : Left). x .outcome .answer) e)
-  only FrameLengthUnfit left (p, q, e) = (e ∙ rw (p, q), ap (λ (x : Left). x .outcome .answer) e)
-  only BufferTooShort left (p, q, r, e) = (e ∙ rw (p, q, r), ap (λ (x : Left). x .outcome .answer) e)
+  only StateOutOfRange left (p, e) = (e ∙ rw p, ap (λ (x : FrameLeft). x .outcome .answer) e)
+  only FrameLengthUnfit left (p, q, e) = (e ∙ rw (p, q), ap (λ (x : FrameLeft). x .outcome .answer) e)
+  only BufferTooShort left (p, q, r, e) = (e ∙ rw (p, q, r), ap (λ (x : FrameLeft). x .outcome .answer) e)
   only HlendUnreadable left (p, q, e) =
-      (e ∙ ap (λ (r : Found Hlend). byHlend r s f delay lent) (sym q) ∙ passed-on p, ap (λ (x : Left). x .outcome .answer) e)
+      (e ∙ ap (λ (r : Found Hlend). byOpening (byHlend r (length (arrived .octets))) s arrived lent) (sym q) ∙ passed-on p, ap (λ (x : FrameLeft). x .outcome .answer) e)
   only HeaderTooLong left (t, e) =
-      let cut : unread HeaderTooLong s lent ≡ byHlend (fields (t .hlend)) s f delay lent = rw (lt-leb (headerEnd (t .hlend)) (length f) (t .longer)) in
-      (e ∙ cut ∙ by-fields (t .hlend) (t .reads) ∙ passed-on (t .passed), ap (λ (x : Left). x .outcome .answer) e)
+      let cut : unread HeaderTooLong s lent ≡ byOpening (byHlend (fields (t .hlend)) (length (arrived .octets))) s arrived lent = rw (lt-leb (headerEnd (t .hlend)) (length (arrived .octets)) (t .longer)) in
+      (e ∙ cut ∙ by-fields (t .hlend) (t .reads) ∙ passed-on (t .passed), ap (λ (x : FrameLeft). x .outcome .answer) e)
   only DelineationLost left r = handled-only true left r
   only PortOutOfRange left r = absurd r
   only PortHeldOrNotHeld left r = absurd r

@@ -8,12 +8,12 @@ use mathlib.Core.List.{List}
 use lib.ListN.{length, take}
 use Rattle.ids.specs.Ids.{managementPort}
 use Rattle.xgtc.specs.declared.hlend.Hlend.{Hlend}
-use Rattle.framing.specs.Reads.{fields}
+use Rattle.xgem.specs.Reads.{fields}
 use Rattle.xgtc.specs.Reads.{readHlend}
 use Rattle.station.specs.declared.Station.{Station}
+use Rattle.station.specs.States.{isOperating}
 use Rattle.payload.specs.Alike.{Alike}
-use Rattle.arrival.specs.Partitions.{headerEnd, payloadOf}
-use Rattle.arrival.specs.Frame.{isOperating}
+use Rattle.downstream.specs.Partitions.{headerEnd, payloadOf}
 
 -- equal; or as long, with the same header, and behind it payloads that are alike where they are walked
 pub data AlikeFrames (s : Station) (f : List ℕ) : List ℕ → Type 0 where

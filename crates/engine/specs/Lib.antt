@@ -1,5 +1,5 @@
 pub mod Answers
 pub mod Alike
 pub mod Counts
-pub mod Times
+pub mod Lods
 pub mod Stretch

@@ -3,24 +3,23 @@
 -- Assumes nothing.
 use Prim.Native.Nat.{ℕ, _+_}
 use mathlib.Core.Path.{_≡_}
-use mathlib.Core.Bool.{Bool, not, cond}
+use mathlib.Core.Bool.{Bool, true, cond}
 use mathlib.Core.List.{List}
-use lib.Dec.{eqb, leb}
-use lib.ListN.{length, take, drop}
+use lib.Dec.{eqb}
+use lib.ListN.{take, drop}
 use Rattle.ids.specs.Ids.{managementPort}
 use Rattle.xgtc.specs.declared.hlend.Hlend.{Hlend}
-use Rattle.framing.specs.Reads.{Found, fields, unreadable, short}
-use Rattle.xgtc.specs.Reads.{readHlend}
 use Rattle.station.specs.declared.Station.{Station}
 use Rattle.station.specs.declared.answers.Answer.{Answer}
-use Rattle.station.specs.declared.answers.Answer.the-variants.{Done, StateOutOfRange, FrameLengthUnfit, HlendUnreadable, HeaderTooLong, DelineationLost}
-use Rattle.ranges.specs.Ranges.{inRange}
+use Rattle.station.specs.declared.answers.Answer.the-variants.{Done, DelineationLost}
+use Rattle.station.specs.States.{isOperating}
 use Rattle.stretches.specs.declared.StretchPlace as found
 use Rattle.stretches.specs.Stretch.{stretchOf}
-use Rattle.engine.specs.declared.alone.StretchPlace.{StretchPlace}
-use Rattle.arrival.specs.Lengths.{lengthFits}
-use Rattle.arrival.specs.Frame.{isOperating}
-use Rattle.arrival.specs.Partitions.{headerEnd, payloadOf}
+use Rattle.engine.specs.declared.stretching.StretchPlace.{StretchPlace}
+use Rattle.downstream.specs.declared.Opening.{Opening}
+use Rattle.downstream.specs.declared.Opening.the-variants.{Refused, Unread, Opened}
+use Rattle.downstream.specs.Partitions.{headerEnd, payloadOf}
+use Rattle.downstream.specs.Opening.{opening}
 
 abbrev pub empty : Answer → StretchPlace
 empty answer = record { answer = answer; at = 0; bytes = 0 }
@@ -42,17 +41,14 @@ placeIn s h f k =
     (inFrame (headerEnd h) (stretchOf (managementPort (s .link .onu)) (s .ports) (payloadOf h f) k))
     (empty Done)
 
-abbrev pub placeBy : Found Hlend → Station → List ℕ → ℕ → StretchPlace
-placeBy unreadable s f k = empty HlendUnreadable
-placeBy short s f k = empty HlendUnreadable
-placeBy (fields h) s f k = cond (leb (headerEnd h) (length f)) (placeIn s h f k) (empty HeaderTooLong)
+abbrev pub placeBy : Opening → Station → List ℕ → ℕ → StretchPlace
+placeBy (Refused answer) s f k = empty answer
+placeBy (Unread answer) s f k = empty answer
+placeBy (Opened h) s f k = placeIn s h f k
 
--- the frame call's answers, without 3
+-- the frame call's answers, without 3: the stretch is lent no buffer
 unfoldable pub stretchPlace : Station → List ℕ → ℕ → StretchPlace
-stretchPlace s f k =
-    cond (not (inRange s)) (empty StateOutOfRange)
-    (cond (not (lengthFits (length f))) (empty FrameLengthUnfit)
-    (placeBy (readHlend f) s f k))
+stretchPlace s f k = placeBy (opening s f true) s f k
 
 abbrev pub PlaceIs : Station → List ℕ → ℕ → StretchPlace → Type 0
 PlaceIs s f k r = r ≡ stretchPlace s f k

@@ -1,21 +1,24 @@
 // The receive engine of an XG-PON terminal: one call for each frame time and each wish of the host. Every call answers for
 // every state, every frame and every lent buffer; what is unfit gets a number of the paper's table, and what is left after
 // each number is fixed.
-mod alone;
-mod times;
+mod lods;
+mod stretching;
 
 // The station's state, by value; `Station::power_on` gives O1 with nothing held or carried, and has no refusal.
 pub use station::Station;
+// What every call but the stretch and the writers comes back with: its answer, and the state that it leaves.
+pub use station::answers::Outcome;
 // A frame has arrived: the plan of upstream bursts, the replies, the SDUs and the next state. Answers 0 to 6.
-pub use arrival::Outcome;
-pub use arrival::frame;
+pub use frame::Counts;
+pub use frame::FrameOutcome;
+pub use frame::frame;
 // No frame has arrived: the synchroniser reports LODS. Answers 0 or 1.
-pub use times::lost;
+pub use lods::lost;
 // Where in the caller's frame an unfragmented SDU stands. Answers 0, 1, 2, 4, 5 or 6.
-pub use alone::StretchPlace;
-pub use alone::stretch_place;
+pub use stretching::StretchPlace;
+pub use stretching::stretch_place;
 // That part of the frame itself, exactly as long as the SDU, or the empty one.
-pub use alone::stretch;
+pub use stretching::stretch;
 // The host adds a port, in the lowest empty slot. Answers 0, 1, 7, 8 or 9.
 pub use host::add_port;
 // The host removes a port. Answers 0, 1, 7 or 8.
@@ -27,5 +30,5 @@ pub use xgtc::hlend::write_hlend;
 // An allocation structure into a lent target. Answers 0 or 11.
 pub use xgtc::allocation::write_allocation;
 // An XGEM header, and an XGEM frame with its SDU and padding, into a lent target. Answer 0 or 11.
-pub use framing::xgem::write_xgem;
-pub use framing::xgem::write_xgem_frame;
+pub use xgem::write_xgem;
+pub use xgem::write_xgem_frame;

@@ -7,14 +7,15 @@ use native.Mathlib.Omega.{arith}
 use lib.Dec.{ltb, eqb}
 use borrow.Author.Tests.{ltb-true, ltb-false, eqb-false}
 use Rattle.xgtc.specs.declared.allocation.Allocation.{Allocation}
-use Rattle.framing.specs.Reads.{Found, fields, unreadable, short}
+use Rattle.xgem.specs.Reads.{Found, fields, unreadable, short}
 use Rattle.entries.specs.Limits.{lastStart, continuing}
 use Rattle.entries.specs.declared.Own.{Own}
 use Rattle.entries.specs.declared.Verdict.{Verdict}
 use Rattle.entries.specs.declared.Verdict.the-variants.{Unreadable, StartTimeUnfit, DbruWithoutRoom, Foreign, Silent}
 use Rattle.entries.specs.declared.Standing.{Standing}
 use Rattle.entries.specs.declared.Standing.the-variants.{Apart, Head, More}
-use Rattle.entries.specs.Standings.{isPlanned, startUnfit, noRoom, continues, ours, silent, sorted, standing, readAsStanding, Mine}
+use Rattle.entries.specs.Standings.{isPlanned, startUnfit, noRoom, continues, ours, sorted, standing, readAsStanding, Mine}
+use Rattle.station.specs.States.{silent}
 
 -- the standing of an entry of ours, as a head or as one that continues
 abbrev pub standsAs : Bool → Allocation → Standing

@@ -8,13 +8,10 @@ use Rattle.xgtc.specs.Reads.{readAllocation}
 use Rattle.entries.specs.declared.Own.{Own}
 use Rattle.entries.specs.declared.Verdict.{Verdict}
 use Rattle.entries.specs.declared.Standing.{Standing}
-use Rattle.entries.specs.Standings.{isPlanned, silent, standing}
+use Rattle.entries.specs.Standings.{isPlanned, standing}
 
 pub standing-ahead-once : (own : Own) (s : List ℕ) (a b : Standing) → a ≡ standing own (readAllocation s) → b ≡ standing own (readAllocation s) → a ≡ b
 standing-ahead-once own s a b p q = p ∙ sym q
-
-pub is-silent-once : (own : Own) (a b : Bool) → a ≡ silent (own .activation) → b ≡ silent (own .activation) → a ≡ b
-is-silent-once own a b p q = p ∙ sym q
 
 pub is-planned-once : (v : Verdict) (a b : Bool) → a ≡ isPlanned v → b ≡ isPlanned v → a ≡ b
 is-planned-once v a b p q = p ∙ sym q

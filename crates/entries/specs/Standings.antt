@@ -7,16 +7,17 @@ use Rattle.ids.specs.declared.AllocId.{AllocId}
 use Rattle.ids.specs.declared.OnuId.{OnuId}
 use Rattle.ids.specs.Ids.{sameAlloc, defaultAlloc, broadcastAlloc}
 use Rattle.xgtc.specs.declared.allocation.Allocation.{Allocation}
-use Rattle.framing.specs.Reads.{Found, fields, unreadable, short}
+use Rattle.xgem.specs.Reads.{Found, fields, unreadable, short}
 use Rattle.station.specs.declared.Activation.{Activation}
 use Rattle.station.specs.declared.Activation.the-variants.{Initial, SerialNumber, Ranging, Operation, Intermittent, EmergencyStop}
+use Rattle.station.specs.States.{silent}
 use Rattle.link.specs.declared.Allocs.{Allocs}
 use Rattle.ids.specs.Places.{some}
 use Rattle.link.specs.Link.{heldAllocs}
 use Rattle.entries.specs.Limits.{lastStart, continuing}
 use Rattle.entries.specs.declared.Own.{Own}
 use Rattle.entries.specs.declared.Verdict.{Verdict}
-use Rattle.entries.specs.declared.Verdict.the-variants.{Planned, Unreadable, StartTimeUnfit, DbruWithoutRoom, Foreign, ContinuingNothing, Seventeenth, TooLong, Overlapping, AfterTheFourth, Silent}
+use Rattle.entries.specs.declared.Verdict.the-variants.{Planned, Unreadable, StartTimeUnfit, DbruWithoutRoom, Foreign, ContinuingNothing, Seventeenth, TooLong, Overlapping, AfterTheLast, Silent}
 use Rattle.entries.specs.declared.Standing.{Standing}
 use Rattle.entries.specs.declared.Standing.the-variants.{Apart, Head, More}
 
@@ -30,7 +31,7 @@ isPlanned ContinuingNothing = false
 isPlanned Seventeenth = false
 isPlanned TooLong = false
 isPlanned Overlapping = false
-isPlanned AfterTheFourth = false
+isPlanned AfterTheLast = false
 isPlanned Silent = false
 
 -- "if StartTime is 9,720 to 65,534"
@@ -68,15 +69,6 @@ oursIn EmergencyStop onu allocs a = false
 
 abbrev pub ours : Own → Allocation → Bool
 ours own a = oursIn (own .activation) (own .onu) (own .allocs) a
-
--- the states in which nothing is ours
-abbrev pub silent : Activation → Bool
-silent Initial = true
-silent SerialNumber = false
-silent (Ranging left) = false
-silent Operation = false
-silent (Intermittent left) = true
-silent EmergencyStop = true
 
 -- an entry that could be read: not of ours, for the first reason that applies, or a head of ours, or one that continues
 unfoldable pub sorted : Own → Allocation → Standing

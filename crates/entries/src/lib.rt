@@ -5,6 +5,7 @@ use ids::AllocId;
 use ids::OnuId;
 use link::Allocs;
 use station::Activation;
+use station::limits::LAST_WORD;
 use xgtc::allocation::Allocation;
 use xgtc::allocation::AllocationRead;
 ghost use mathlib.Core.Path.{_≡_};
@@ -13,11 +14,12 @@ ghost use lib.ListN.{take};
 ghost use Rattle.xgtc.specs.Reads.{readAllocation, foundAllocation};
 ghost use Rattle.ids.specs.Places.{some};
 ghost use Rattle.ids.specs.Ids.{sameAlloc};
-ghost use Rattle.entries.specs.Standings.{isPlanned, startUnfit, noRoom, continues, held, discovery, ranging, ours, silent, sorted, standing};
+ghost use Rattle.entries.specs.Standings.{isPlanned, startUnfit, noRoom, continues, held, discovery, ranging, ours, sorted, standing};
 
-// The last word of an upstream frame, and the StartTime that stands for none: such an entry continues the burst.
-const LAST_START: u16 = 9719;
+// Octets of an allocation structure.
+pub const STRUCTURE_OCTETS: usize = 8;
 
+// The StartTime that stands for none: such an entry continues the burst.
 const CONTINUING: u16 = 65535;
 
 // What decides which grants are a station's, as its frame arrives.
@@ -38,7 +40,7 @@ pub enum Verdict {
     Seventeenth,
     TooLong,
     Overlapping,
-    AfterTheFourth,
+    AfterTheLast,
     Silent,
 }
 
@@ -63,7 +65,7 @@ impl Verdict {
             Verdict::Seventeenth => false,
             Verdict::TooLong => false,
             Verdict::Overlapping => false,
-            Verdict::AfterTheFourth => false,
+            Verdict::AfterTheLast => false,
             Verdict::Silent => false,
         }
     }
@@ -72,7 +74,7 @@ impl Verdict {
 fn start_unfit(a: Allocation) -> bool
     ensures { λ r. ⌜ r ≡ startUnfit a ⌝ }
 {
-    LAST_START < a.start && a.start < CONTINUING
+    LAST_WORD < a.start && a.start < CONTINUING
 }
 
 fn no_room(a: Allocation) -> bool
@@ -127,7 +129,7 @@ fn discovery(a: Allocation) -> bool
     ensures { λ r. ⌜ r ≡ discovery a ⌝ }
 {
     let id = a.alloc;
-    if LAST_START < a.start {
+    if LAST_WORD < a.start {
         return false;
     }
     if !id.is(AllocId::broadcast()) {
@@ -153,21 +155,6 @@ fn ranging(onu: OnuId, a: Allocation) -> bool
 }
 
 impl Own {
-    // In O1, O6 and O7 a station sends nothing.
-    pub fn is_silent(self) -> bool
-        ensures { λ r. ⌜ r ≡ silent (self .activation) ⌝ }
-    {
-        let activation = self.activation;
-        match activation {
-            Activation::Initial => true,
-            Activation::SerialNumber => false,
-            Activation::Ranging(_) => false,
-            Activation::Operation => false,
-            Activation::Intermittent(_) => true,
-            Activation::EmergencyStop => true,
-        }
-    }
-
     pub fn owns(self, a: Allocation) -> bool
         ensures { λ r. ⌜ r ≡ ours self a ⌝ }
     {
@@ -207,7 +194,8 @@ impl Own {
     pub fn standing(self, read: AllocationRead) -> Standing
         ensures { λ r. ⌜ r ≡ standing self (foundAllocation read) ⌝ }
     {
-        if self.is_silent() {
+        let activation = self.activation;
+        if activation.is_silent() {
             return Standing::Apart(Verdict::Silent);
         }
         match read {

@@ -1,12 +1,13 @@
 // An entry of a map that is walked: by octets, and with no test before the word is loaded, so that the compiler merges it into the
 // walk's loop. xgtc reads a structure by itself.
+use crate::STRUCTURE_OCTETS;
 use hec::Reading64;
 use xgtc::allocation::Allocation;
 use xgtc::allocation::AllocationRead;
 ghost use mathlib.Core.Path.{_≡_};
 ghost use Rattle.hec.specs.Reads.{found64};
 ghost use Rattle.xgtc.specs.Layouts.{allocationOf};
-ghost use Rattle.framing.specs.Reads.{taken};
+ghost use Rattle.xgem.specs.Reads.{taken};
 ghost use Rattle.xgtc.specs.Reads.{readAllocation, foundAllocation};
 
 fn found(read: Reading64) -> AllocationRead
@@ -22,8 +23,8 @@ fn found(read: Reading64) -> AllocationRead
 pub fn read_entry(s: &[u8]) -> AllocationRead
     ensures { λ r. ⌜ foundAllocation r ≡ readAllocation (now (s .entry)) ⌝ }
 {
-    let read = hec::read64_by_octets(framing::word_ahead(s));
-    if s.len() < 8 {
+    let read = hec::read64_by_octets(xgem::word_ahead(s));
+    if s.len() < STRUCTURE_OCTETS {
         return AllocationRead::Short;
     }
     found(read)

@@ -1,3 +1,3 @@
-pub mod Effects
+pub mod Decided
 pub mod Marked
 pub mod Once

@@ -3,11 +3,12 @@
 use Prim.Native.Nat.{ℕ}
 use mathlib.Core.Path.{_≡_, _∙_, sym}
 use mathlib.Core.Bool.{Bool}
+use mathlib.Core.List.{List}
 use Rattle.ids.specs.declared.PortId.{PortId}
-use Rattle.ports.specs.declared.Ports.{Ports}
-use Rattle.fragments.specs.declared.Effect.{Effect}
-use Rattle.fragments.specs.Fragments.{effectOf}
+use Rattle.fragments.specs.declared.Reassembly.{Reassembly}
+use Rattle.fragments.specs.Fragments.{reassemblyIn}
 
--- effect_in and effect_of have one contract, over the ports by their parts and over the ports
-pub effect-once : (p : Ports) (own port : PortId) (last : Bool) (n : ℕ) (a b : Effect) → a ≡ effectOf p own port last n → b ≡ effectOf p own port last n → a ≡ b
-effect-once p own port last n a b x y = x ∙ sym y
+-- reassembly_in and reassembly_of have one contract, over the ports by their parts and over the ports
+pub reassembly-once : (ids : List PortId) (lengths : List ℕ) (waiting : List Bool) (own port : PortId) (last : Bool) (n : ℕ) (a b : Reassembly)
+    → a ≡ reassemblyIn ids lengths waiting own port last n → b ≡ reassemblyIn ids lengths waiting own port last n → a ≡ b
+reassembly-once ids lengths waiting own port last n a b x y = x ∙ sym y

@@ -1,28 +1,30 @@
-// What a fragment does to the port that it is for. The decision is apart from the effect: it needs the ports alone.
+// What a fragment does to the port that it is for. The decision is apart from what then happens: it needs the ports alone.
 ghost use mathlib.Core.Path.{_≡_};
 ghost use mathlib.Core.Bool.{cond};
-ghost use mathlib.Core.List.{[]};
 ghost use Prim.Native.Nat.{_+_, _≤_, _<_};
 ghost use Rattle.ids.specs.Ids.{samePort};
 ghost use Rattle.ports.specs.Limits.{slots, addedPorts};
 ghost use Rattle.ids.specs.Places.{Below, placeFrom};
-ghost use Rattle.fragments.specs.Fragments.{behind, slotIn, slotOf, atSlot, atPlace, effectOf};
+ghost use Rattle.fragments.specs.Fragments.{behind, slotIn, slotOf, atSlot, atPlace, reassemblyIn, reassemblyOf};
 ghost use Rattle.fragments.specs.Marks.{marks};
 use ids::Place;
 use ids::PortId;
 use ports::ADDED_PORTS;
 use ports::Ports;
-use ports::SLOT_BYTES;
+use ports::SDU_BYTES;
+use ports::SLOTS;
 
-pub enum Effect {
-    Nothing,
+pub enum Reassembly {
+    Ignored,
     // the slot's partial is dropped, and its port waits or not
-    Discard(usize, bool),
+    Dropped(usize, bool),
     // the slot's partial of so many bytes and the fragment are delivered
-    Deliver(usize, usize),
+    Delivered(usize, usize),
     // the fragment is added to the slot's partial of so many bytes
-    Append(usize, usize),
+    Appended(usize, usize),
 }
+
+const PLACES: u16 = ADDED_PORTS as u16;
 
 // The mark of a place in a sum: 256, and the place.
 fn mark(hit: bool, place: u16) -> u16
@@ -33,12 +35,12 @@ fn mark(hit: bool, place: u16) -> u16
 }
 
 // All sixteen ports are compared, without a branch: which port comes next is nothing to be guessed.
-fn marks_of(ids: [PortId; 16], id: PortId) -> u16
+fn marks_of(ids: [PortId; ADDED_PORTS], id: PortId) -> u16
     ensures { λ r. ⌜ r ≡ marks (samePort id) 0 ids ⌝ }
 {
     let mut sum: u16 = 0;
     let mut i: u16 = 0;
-    while i < 16 {
+    while i < PLACES {
         let place = i as usize;
         let other = ids[place];
         sum = sum + mark(id.is(other), i);
@@ -47,7 +49,7 @@ fn marks_of(ids: [PortId; 16], id: PortId) -> u16
     sum
 }
 
-fn first_place(ids: [PortId; 16], id: PortId) -> Place
+fn first_place(ids: [PortId; ADDED_PORTS], id: PortId) -> Place
     ensures { λ r. ⌜ r ≡ placeFrom (samePort id) 0 ids ⌝ }
 {
     let mut i: usize = 0;
@@ -62,7 +64,7 @@ fn first_place(ids: [PortId; 16], id: PortId) -> Place
 }
 
 // The ports that a station holds differ, so that a sum of two marks is met in no frame.
-fn place_in(ids: [PortId; 16], id: PortId) -> Place
+fn place_in(ids: [PortId; ADDED_PORTS], id: PortId) -> Place
     ensures { λ r. ⌜ r ≡ placeFrom (samePort id) 0 ids ⌝ }
 {
     let sum = marks_of(ids, id);
@@ -95,7 +97,7 @@ fn management(own: PortId, port: PortId) -> Place
     }
 }
 
-fn slot_in(ids: [PortId; 16], own: PortId, port: PortId) -> Place
+fn slot_in(ids: [PortId; ADDED_PORTS], own: PortId, port: PortId) -> Place
     ensures { λ r. ⌜ (r ≡ slotIn ids own port) × (Below r slots) ⌝ }
 {
     if port.is_assignable() {
@@ -105,21 +107,21 @@ fn slot_in(ids: [PortId; 16], own: PortId, port: PortId) -> Place
     }
 }
 
-fn at_slot(slot: usize, waits: bool, have: usize, last: bool, n: usize) -> Effect
+fn at_slot(slot: usize, waits: bool, have: usize, last: bool, n: usize) -> Reassembly
     requires { ⌜ (have ≤ 65535) × (n ≤ 65535) ⌝ }
     ensures { λ r. ⌜ r ≡ atSlot slot waits have last n ⌝ }
 {
     if waits {
-        return Effect::Discard(slot, !last);
+        return Reassembly::Dropped(slot, !last);
     }
-    if SLOT_BYTES < have + n {
+    if SDU_BYTES < have + n {
         let then_waits = !last;
-        return Effect::Discard(slot, then_waits);
+        return Reassembly::Dropped(slot, then_waits);
     }
     if last {
-        return Effect::Deliver(slot, have);
+        return Reassembly::Delivered(slot, have);
     }
-    Effect::Append(slot, have)
+    Reassembly::Appended(slot, have)
 }
 
 fn wide(x: u16) -> usize
@@ -128,30 +130,36 @@ fn wide(x: u16) -> usize
     x as usize
 }
 
-fn at_place(lengths: &[u16; 17], waiting: &[bool; 17], slot: Place, last: bool, n: u16) -> Effect
+fn at_place(
+    lengths: &[u16; SLOTS],
+    waiting: &[bool; SLOTS],
+    slot: Place,
+    last: bool,
+    n: u16,
+) -> Reassembly
     requires { ⌜ Below slot slots ⌝ }
-    ensures { λ r. ⌜ r ≡ atPlace (record { ids = []; lengths = now (lengths .entry); waiting = now (waiting .entry) }) last n slot ⌝ }
+    ensures { λ r. ⌜ r ≡ atPlace (now (lengths .entry)) (now (waiting .entry)) last n slot ⌝ }
 {
     match slot {
         Place::At(i) => at_slot(i, waiting[i], wide(lengths[i]), last, wide(n)),
-        Place::Nowhere => Effect::Nothing,
+        Place::Nowhere => Reassembly::Ignored,
     }
 }
 
 // The ports by their parts, which the walk keeps apart: what is changed by single elements is never copied whole.
-pub fn effect_in(
-    ids: [PortId; 16],
-    lengths: &[u16; 17],
-    waiting: &[bool; 17],
+pub fn reassembly_in(
+    ids: [PortId; ADDED_PORTS],
+    lengths: &[u16; SLOTS],
+    waiting: &[bool; SLOTS],
     own: PortId,
     port: PortId,
     last: bool,
     n: u16,
-) -> Effect
-    ensures { λ r. ⌜ r ≡ effectOf (record { ids = ids; lengths = now (lengths .entry); waiting = now (waiting .entry) }) own port last n ⌝ }
+) -> Reassembly
+    ensures { λ r. ⌜ r ≡ reassemblyIn ids (now (lengths .entry)) (now (waiting .entry)) own port last n ⌝ }
 {
     if n == 0 {
-        return Effect::Nothing;
+        return Reassembly::Ignored;
     }
     let slot = slot_in(ids, own, port);
     at_place(lengths, waiting, slot, last, n)
@@ -167,9 +175,9 @@ fn slot_of(ports: Ports, own: PortId, port: PortId) -> Place
     }
 }
 
-// For the search for a stretch, which is not to be a second caller of `effect_in`.
-pub fn effect_of(ports: Ports, own: PortId, port: PortId, last: bool, n: u16) -> Effect
-    ensures { λ r. ⌜ r ≡ effectOf ports own port last n ⌝ }
+// For the search for a stretch, which is not to be a second caller of `reassembly_in`.
+pub fn reassembly_of(ports: Ports, own: PortId, port: PortId, last: bool, n: u16) -> Reassembly
+    ensures { λ r. ⌜ r ≡ reassemblyOf ports own port last n ⌝ }
 {
     if n != 0 {
         let slot = slot_of(ports, own, port);
@@ -177,6 +185,6 @@ pub fn effect_of(ports: Ports, own: PortId, port: PortId, last: bool, n: u16) ->
         let waiting = ports.waiting;
         at_place(&lengths, &waiting, slot, last, n)
     } else {
-        Effect::Nothing
+        Reassembly::Ignored
     }
 }

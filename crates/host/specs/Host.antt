@@ -8,19 +8,14 @@ use Rattle.ids.specs.declared.PortId.{PortId}
 use Rattle.ids.specs.Ids.{assignablePort}
 use Rattle.station.specs.declared.answers.Answer.{Answer}
 use Rattle.station.specs.declared.answers.Answer.the-variants.{Done, StateOutOfRange, FrameLengthUnfit, BufferTooShort, HlendUnreadable, HeaderTooLong, DelineationLost, PortOutOfRange, PortHeldOrNotHeld, SlotsTaken, KeyRefused, NotWritten}
+use Rattle.station.specs.declared.answers.Outcome.{Outcome}
 use Rattle.station.specs.declared.Station.{Station}
-use Rattle.ids.specs.declared.Place.{Place}
-use Rattle.ids.specs.declared.Place.the-variants.{At, Nowhere}
+use Rattle.ids.specs.Places.{isHeld}
 use Rattle.station.specs.States.{holdsIdentity}
 use Rattle.link.specs.Link.{withKey, installed}
 use Rattle.ports.specs.Ports.{portPlace, vacancy, addPort, removePort}
 use Rattle.station.specs.Station.{withLink, withPorts}
-use Rattle.ranges.specs.Ranges.{inRange}
-use Rattle.host.specs.declared.Outcome.{Outcome}
-
-abbrev pub found : Place → Bool
-found (At i) = true
-found Nowhere = false
+use Rattle.validity.specs.Ranges.{inRange}
 
 abbrev pub done : Answer → Bool
 done Done = true
@@ -45,14 +40,14 @@ unfoldable pub answerToAdd : Station → PortId → Answer
 answerToAdd s port =
     cond (not (inRange s)) StateOutOfRange
     (cond (not (assignablePort port)) PortOutOfRange
-    (cond (found (portPlace (s .ports) port)) PortHeldOrNotHeld (cond (found (vacancy (s .ports))) Done SlotsTaken)))
+    (cond (isHeld (portPlace (s .ports) port)) PortHeldOrNotHeld (cond (isHeld (vacancy (s .ports))) Done SlotsTaken)))
 
 -- 1, 7, 8: "removed port not held"
 unfoldable pub answerToRemove : Station → PortId → Answer
 answerToRemove s port =
     cond (not (inRange s)) StateOutOfRange
     (cond (not (assignablePort port)) PortOutOfRange
-    (cond (found (portPlace (s .ports) port)) Done
+    (cond (isHeld (portPlace (s .ports) port)) Done
     PortHeldOrNotHeld))
 
 -- 1, 10: "key given in O1, O2-3, O7"

@@ -1,27 +1,12 @@
 // The host's calls: a port added, a port removed, the key given. A refusal leaves the station as it was.
 ghost use mathlib.Core.Path.{_≡_};
-ghost use Rattle.host.specs.Host.{found, done, outcome, answerToAdd, answerToRemove, answerToKey};
+ghost use Rattle.host.specs.Host.{done, outcome, answerToAdd, answerToRemove, answerToKey};
 ghost use Rattle.host.specs.Host.{AddLeaves, RemoveLeaves, KeyLeaves, afterAdd, afterRemove, afterKey};
-use ids::Place;
 use ids::PortId;
 use link::Key;
 use station::Station;
 use station::answers::Answer;
-
-// What a call answers and the station that it leaves.
-pub struct Outcome {
-    pub answer: Answer,
-    pub station: Station,
-}
-
-fn is_found(place: Place) -> bool
-    ensures { λ r. ⌜ r ≡ found place ⌝ }
-{
-    match place {
-        Place::At(_) => true,
-        Place::Nowhere => false,
-    }
-}
+use station::answers::Outcome;
 
 fn is_done(answer: Answer) -> bool
     ensures { λ r. ⌜ r ≡ done answer ⌝ }
@@ -61,17 +46,19 @@ fn settle(answer: Answer, was: Station, next: Station) -> Outcome
 fn answer_to_add(s: Station, port: PortId) -> Answer
     ensures { λ r. ⌜ r ≡ answerToAdd s port ⌝ }
 {
-    if !ranges::in_range(s) {
+    if !validity::in_range(s) {
         return Answer::StateOutOfRange;
     }
     if !port.is_assignable() {
         return Answer::PortOutOfRange;
     }
     let ports = s.ports;
-    if is_found(ports.place(port)) {
+    let place = ports.place(port);
+    if place.is_held() {
         return Answer::PortHeldOrNotHeld;
     }
-    if is_found(ports.vacancy()) {
+    let vacancy = ports.vacancy();
+    if vacancy.is_held() {
         return Answer::Done;
     }
     Answer::SlotsTaken
@@ -80,14 +67,15 @@ fn answer_to_add(s: Station, port: PortId) -> Answer
 fn answer_to_remove(s: Station, port: PortId) -> Answer
     ensures { λ r. ⌜ r ≡ answerToRemove s port ⌝ }
 {
-    if !ranges::in_range(s) {
+    if !validity::in_range(s) {
         return Answer::StateOutOfRange;
     }
     if !port.is_assignable() {
         return Answer::PortOutOfRange;
     }
     let ports = s.ports;
-    if is_found(ports.place(port)) {
+    let place = ports.place(port);
+    if place.is_held() {
         return Answer::Done;
     }
     Answer::PortHeldOrNotHeld
@@ -96,7 +84,7 @@ fn answer_to_remove(s: Station, port: PortId) -> Answer
 fn answer_to_key(s: Station) -> Answer
     ensures { λ r. ⌜ r ≡ answerToKey s ⌝ }
 {
-    if !ranges::in_range(s) {
+    if !validity::in_range(s) {
         return Answer::StateOutOfRange;
     }
     let activation = s.activation;

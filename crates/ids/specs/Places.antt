@@ -11,6 +11,11 @@ abbrev pub placeFrom : {A : Type 0} → (A → Bool) → ℕ → List A → Plac
 placeFrom f i [] = Nowhere
 placeFrom f i (a ∷ l) = cond (f a) (At i) (placeFrom f (i + 1) l)
 
+-- there is one
+abbrev pub isHeld : Place → Bool
+isHeld (At i) = true
+isHeld Nowhere = false
+
 -- a place that is found lies below n
 abbrev pub Below : Place → ℕ → Type 0
 Below (At i) n = i < n

@@ -5,6 +5,7 @@ ghost use Rattle.ids.specs.Ids.{defaultAlloc, managementPort};
 ghost use Rattle.ids.specs.Ids.{broadcastOnu, broadcastAlloc, idlePort};
 ghost use Rattle.ids.specs.Ids.{within, assignableOnu, assignableAlloc, assignablePort};
 ghost use Rattle.ids.specs.Ids.{sameOnu, sameAlloc, samePort};
+ghost use Rattle.ids.specs.Places.{isHeld};
 
 // Names a station on the branch: 10 bits.
 pub struct OnuId(pub u16);
@@ -19,6 +20,17 @@ pub struct PortId(pub u16);
 pub enum Place {
     At(usize),
     Nowhere,
+}
+
+impl Place {
+    pub fn is_held(self) -> bool
+        ensures { λ r. ⌜ r ≡ isHeld self ⌝ }
+    {
+        match self {
+            Place::At(_) => true,
+            Place::Nowhere => false,
+        }
+    }
 }
 
 // Table 6-1: the last ONU-ID that a station can have, and the one above it, the broadcast address and that of a

@@ -7,7 +7,7 @@ ghost use lib.Seq.{paste};
 ghost use Rattle.aes.specs.Words.{wordsOf};
 ghost use Rattle.aes.specs.Blocks.{mostBlocks};
 ghost use Rattle.cmac.specs.Tags.{preparedBy, mac64By};
-ghost use Rattle.ploam.specs.Layout.{messageOctets, coveredOctets, messageAt, addressOf, micField};
+ghost use Rattle.ploam.specs.Layout.{messageOctets, coveredOctets, messageAt, micField};
 ghost use Rattle.integrity.specs.Integrity.{directionCode, covered, same, defaultKey, downstreamByDefault, upstreamByDefault, byDefault, micRightBy, genuineBy};
 ghost use Rattle.integrity.specs.Rights.{markOf, rightsBy};
 ghost use Rattle.integrity.specs.Rows.{rowOctets, coveredIn, Rows, hasField};
@@ -203,13 +203,6 @@ pub fn by_default(direction: Direction, address: OnuId, kind: u8) -> bool
     }
 }
 
-fn address(m: &[u8]) -> OnuId
-    requires { ⌜ messageOctets ≤ length (now m) ⌝ }
-    ensures { λ r. ⌜ r ≡ addressOf (now (m .entry)) ⌝ }
-{
-    OnuId(ploam::reading::join16(m[0], m[1]) % 1024)
-}
-
 // Whether a downstream message's integrity field is right under its own key: the default key (`usual`, prepared) or the
 // installed one. Where none is installed, the caller gives the default for both.
 pub fn genuine(usual: Prepared, installed: Prepared, m: &[u8]) -> bool
@@ -218,7 +211,11 @@ pub fn genuine(usual: Prepared, installed: Prepared, m: &[u8]) -> bool
     if m.len() < MESSAGE_OCTETS {
         return false;
     }
-    if by_default(Direction::Downstream, address(m), m[2]) {
+    if by_default(
+        Direction::Downstream,
+        ploam::reading::address(m[0], m[1]),
+        m[2],
+    ) {
         mic_right(usual, Direction::Downstream, m)
     } else {
         mic_right(installed, Direction::Downstream, m)

@@ -10,19 +10,21 @@ use Rattle.integrity.specs.Integrity.{same}
 use Rattle.station.specs.declared.Station.{Station}
 use Rattle.station.specs.Station.{powerOn}
 use Rattle.layout.specs.declared.StateRead.{StateRead}
-use Rattle.layout.specs.declared.Standing.{Standing}
-use Rattle.layout.specs.declared.Standing.the-variants.{Held, Unreadable, Short}
-use Rattle.layout.specs.Layout.{stateBytes, encoded, shown, readOf}
+use Rattle.layout.specs.declared.Contents.{Contents}
+use Rattle.layout.specs.declared.Contents.the-variants.{Held, Unreadable, Short}
+use Rattle.station.specs.Limits.{serialOctets, registrationOctets}
+use Rattle.layout.specs.Offsets.{stateBytes}
+use Rattle.layout.specs.Layout.{encoded, shown, readOf}
 
 module _ (b : List ℕ) (s : Station) where
-  pub read-short : length b < stateBytes → s ≡ powerOn (replicate 8 0) (replicate 36 0) → _≡_ {A = StateRead} (record { standing = Short; station = s }) (readOf b)
+  pub read-short : length b < stateBytes → s ≡ powerOn (replicate serialOctets 0) (replicate registrationOctets 0) → _≡_ {A = StateRead} (record { contents = Short; station = s }) (readOf b)
   unfolding readOf
   read-short h e = rw (lt-leb stateBytes (length b) h, e)
 
-  pub read-held : stateBytes ≤ length b → s ≡ shown b → same (encoded (shown b)) (take stateBytes b) ≡ true → _≡_ {A = StateRead} (record { standing = Held; station = s }) (readOf b)
+  pub read-held : stateBytes ≤ length b → s ≡ shown b → same (encoded (shown b)) (take stateBytes b) ≡ true → _≡_ {A = StateRead} (record { contents = Held; station = s }) (readOf b)
   unfolding readOf
   read-held h e f = rw (le-leb stateBytes (length b) h, f, e)
 
-  pub read-unreadable : stateBytes ≤ length b → s ≡ shown b → same (encoded (shown b)) (take stateBytes b) ≡ false → _≡_ {A = StateRead} (record { standing = Unreadable; station = s }) (readOf b)
+  pub read-unreadable : stateBytes ≤ length b → s ≡ shown b → same (encoded (shown b)) (take stateBytes b) ≡ false → _≡_ {A = StateRead} (record { contents = Unreadable; station = s }) (readOf b)
   unfolding readOf
   read-unreadable h e f = rw (le-leb stateBytes (length b) h, f, e)

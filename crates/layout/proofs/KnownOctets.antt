@@ -9,15 +9,22 @@ use lib.Dec.{eqb, leb, ltb, lit<}
 use lib.ListN.{length, getD, take, drop, length-append, length-take, length-drop, take-append-drop, List·getD-eq-default}
 use lib.Seq.{take-all, take-take, take-add, drop-drop, getD-take, getD-drop, length-take-le}
 use borrow.Author.Tests.{ltb-true, ltb-false, eqb-true, eqb-false, eq-eqb, ne-eqb, le-leb, lt-leb}
-use Rattle.framing.specs.Octets.{value, octets}
-use Rattle.framing.proofs.Numbers.{Bytes, octets-value, octets-length, value-octets, value-lt}
+use Rattle.octets.specs.Octets.{value, octets}
+use Rattle.octets.proofs.Numbers.{Bytes, octets-value, octets-length, value-octets, value-lt}
 use Rattle.integrity.specs.Integrity.{same}
 use Rattle.integrity.proofs.Same.{same-refl, same-equal}
 use Rattle.station.specs.declared.Activation.{Activation}
 use Rattle.station.specs.declared.Activation.the-variants.{Initial, SerialNumber, Ranging, Operation, Intermittent, EmergencyStop}
 use Rattle.station.specs.States.{stateNumber}
+use Rattle.station.specs.Limits.{serialOctets, registrationOctets}
+use Rattle.link.specs.Limits.{addedAllocs, mostOwed}
+use Rattle.link.specs.Limits as limits
+use Rattle.ports.specs.Limits.{slots, addedPorts}
 use Rattle.layout.specs.Rows.{part, each, many}
-use Rattle.layout.specs.Layout.{stateBytes, timeLeft, activationBy, activationOf, activationOctets, allocOf, allocOctets, allocsOf, allocsOctets, markOf, markNumber, markOctets, keyOf, keyOctets, responseNumber, responseBy, owedOf, owedOctets, queueOf, queueOctets, linkOf, linkOctets, portOf, portOctets, lengthOctets, portsOf, portsOctets, encoded, shown}
+use Rattle.layout.specs.Offsets.{idWidth, markWidth, countWidth, numberAt, numberWidth, timeAt, timeWidth, activationAt, activationWidth, allocIdsAt, allocIdsWidth, allocsWidth, heldAt, keyOctetsAt, keyWidth}
+use Rattle.layout.specs.Offsets.{answerWidth, answersAt, answersWidth, queueWidth, onuAt, allocsAt, delayAt, delayWidth, keyAt, queueAt, linkWidth, portIdsAt, portIdsWidth, lengthsAt, lengthWidth, lengthsWidth, waitingAt, waitingWidth, portsWidth}
+use Rattle.layout.specs.Offsets.{serialAt, registrationAt, linkAt, portsAt, carriedAt, wordsWidth, reservedAt, reservedWidth, stateBytes}
+use Rattle.layout.specs.Layout.{timeLeft, activationBy, activationOf, activationOctets, allocOf, allocOctets, allocsOf, allocsOctets, markOf, markNumber, markOctets, keyOf, keyOctets, responseNumber, responseBy, owedOf, owedOctets, queueOf, queueOctets, linkOf, linkOctets, portOf, portOctets, lengthOctets, portsOf, portsOctets, encoded, shown}
 use Rattle.layout.proofs.Refused.{part-length}
 use Rattle.layout.specs.KnownOctets.{activationKnown, markKnown, answerKnown, eachKnown, octetsKnown}
 
@@ -129,7 +136,7 @@ mark-number n = go (eqb n 1) (eqb 0 n) refl refl
     go false true e f = let q = eqb-true 0 n f in f ∙ sym (le-leb n 1 (omega arith))
     go false false e f = f ∙ sym (lt-leb n 1 (omega (arith, eqb-false n 1 e, eqb-false 0 n f)))
 
-mark-like : (x : List ℕ) → length x ≡ 1 → Octets x → Like (markOctets (markOf x)) x (markKnown (getD x 0 0))
+mark-like : (x : List ℕ) → length x ≡ markWidth → Octets x → Like (markOctets (markOf x)) x (markKnown (getD x 0 0))
 unfolding same
 mark-like [] e h = absurd (omega arith)
 mark-like (n ∷ []) e h =
@@ -159,7 +166,7 @@ answer-number n =
     P : ℕ → Type 0
     P k = eqb (responseNumber (responseBy k)) k ≡ (leb k 6 && not (eqb k 3))
 
-answer-like : (x : List ℕ) → length x ≡ 2 → Octets x → Like (owedOctets (owedOf x)) x (answerKnown (getD x 0 0))
+answer-like : (x : List ℕ) → length x ≡ answerWidth → Octets x → Like (owedOctets (owedOf x)) x (answerKnown (getD x 0 0))
 unfolding same
 answer-like [] e h = absurd (omega arith)
 answer-like (n ∷ []) e h = absurd (omega arith)
@@ -172,10 +179,10 @@ answer-like (n ∷ (m ∷ [])) e h = (
 answer-like (n ∷ (m ∷ (k ∷ x))) e h = absurd (omega arith)
 
 -- the time that is read is that of the state or none
-left-lt : (n l : ℕ) → l < 256 ^ 4 → timeLeft (activationBy n l) < 256 ^ 4
+left-lt : (n l : ℕ) → l < 256 ^ timeWidth → timeLeft (activationBy n l) < 256 ^ timeWidth
 left-lt n l h = go (eqb n 2) (eqb n 4) (eqb n 5) (eqb n 6) (eqb n 7)
   where
-    go : (a b c d e : Bool) → timeLeft (cond a SerialNumber (cond b (Ranging l) (cond c Operation (cond d (Intermittent l) (cond e EmergencyStop Initial))))) < 256 ^ 4
+    go : (a b c d e : Bool) → timeLeft (cond a SerialNumber (cond b (Ranging l) (cond c Operation (cond d (Intermittent l) (cond e EmergencyStop Initial))))) < 256 ^ timeWidth
     go true b c d e = lit< tt
     go false true c d e = h
     go false false true d e = lit< tt
@@ -183,7 +190,7 @@ left-lt n l h = go (eqb n 2) (eqb n 4) (eqb n 5) (eqb n 6) (eqb n 7)
     go false false false false true = lit< tt
     go false false false false false = lit< tt
 
-state-lt : (a : Activation) → stateNumber a < 256 ^ 1
+state-lt : (a : Activation) → stateNumber a < 256 ^ numberWidth
 state-lt Initial = lit< tt
 state-lt SerialNumber = lit< tt
 state-lt (Ranging left) = lit< tt
@@ -207,26 +214,26 @@ value-like n v x h e o = go (eqb v (value x)) refl
         differ true r k = absurd (k r)
         differ false r k = r
 
-activation-like : (c : List ℕ) → length c ≡ 5 → Octets c → Like (activationOctets (activationOf c)) c (activationKnown c)
+activation-like : (c : List ℕ) → length c ≡ activationWidth → Octets c → Like (activationOctets (activationOf c)) c (activationKnown c)
 unfolding activationOf activationKnown
 activation-like c e h =
-    let a : Activation = activationBy (value (part 0 1 c)) (value (part 1 4 c)) in
-    let w : length (part 1 4 c) ≡ 4 = part-length 1 4 c (omega arith) in
-    let o : Octets (part 1 4 c) = octets-part 1 4 c h in
-    let v : value (part 1 4 c) < 256 ^ 4 = ap-lt (value-lt (part 1 4 c) (bytes (part 1 4 c) o)) w in
-    at (octets 1 (stateNumber a) ++ octets 4 (timeLeft a)) (take 1 c ++ part 1 4 c) c _ _
-    (joint (octets 1 (stateNumber a)) (take 1 c) (octets 4 (timeLeft a)) (part 1 4 c) _ _ (value-like 1 (stateNumber a) (take 1 c) (state-lt a) (part-length 0 1 c (omega arith)) (octets-part 0 1 c h)) (value-like 4 (timeLeft a) (part 1 4 c) (left-lt (value (part 0 1 c)) (value (part 1 4 c)) v) w o))
-    (grow 1 4 (take 1 c) c refl ∙ take-all 5 c (omega arith))
+    let a : Activation = activationBy (value (part numberAt numberWidth c)) (value (part timeAt timeWidth c)) in
+    let w : length (part timeAt timeWidth c) ≡ timeWidth = part-length timeAt timeWidth c (omega arith) in
+    let o : Octets (part timeAt timeWidth c) = octets-part timeAt timeWidth c h in
+    let v : value (part timeAt timeWidth c) < 256 ^ timeWidth = ap-lt (value-lt (part timeAt timeWidth c) (bytes (part timeAt timeWidth c) o)) w in
+    at (octets numberWidth (stateNumber a) ++ octets timeWidth (timeLeft a)) (take numberWidth c ++ part timeAt timeWidth c) c _ _
+    (joint (octets numberWidth (stateNumber a)) (take numberWidth c) (octets timeWidth (timeLeft a)) (part timeAt timeWidth c) _ _ (value-like numberWidth (stateNumber a) (take numberWidth c) (state-lt a) (part-length numberAt numberWidth c (omega arith)) (octets-part numberAt numberWidth c h)) (value-like timeWidth (timeLeft a) (part timeAt timeWidth c) (left-lt (value (part numberAt numberWidth c)) (value (part timeAt timeWidth c)) v) w o))
+    (grow numberWidth timeWidth (take numberWidth c) c refl ∙ take-all activationWidth c (omega arith))
     refl
 
-alloc-like : (x : List ℕ) → length x ≡ 2 → Octets x → Like (allocOctets (allocOf x)) x true
-alloc-like x e h = number-like 2 x e h
+alloc-like : (x : List ℕ) → length x ≡ idWidth → Octets x → Like (allocOctets (allocOf x)) x true
+alloc-like x e h = number-like idWidth x e h
 
-port-like : (x : List ℕ) → length x ≡ 2 → Octets x → Like (portOctets (portOf x)) x true
-port-like x e h = number-like 2 x e h
+port-like : (x : List ℕ) → length x ≡ idWidth → Octets x → Like (portOctets (portOf x)) x true
+port-like x e h = number-like idWidth x e h
 
-length-like : (x : List ℕ) → length x ≡ 2 → Octets x → Like (lengthOctets (value x)) x true
-length-like x e h = number-like 2 x e h
+length-like : (x : List ℕ) → length x ≡ lengthWidth → Octets x → Like (lengthOctets (value x)) x true
+length-like x e h = number-like lengthWidth x e h
 
 -- a field that has all its numbers
 numbers-like
@@ -236,62 +243,62 @@ numbers-like
 numbers-like of octetsOf w n p one c e h =
     let (l, s) = each-like of octetsOf w any p one n c e h in (l, s ∙ any-known w n c)
 
-allocs-like : (c : List ℕ) → length c ≡ 33 → Octets c → Like (allocsOctets (allocsOf c)) c true
+allocs-like : (c : List ℕ) → length c ≡ allocsWidth → Octets c → Like (allocsOctets (allocsOf c)) c true
 unfolding allocsOf
 allocs-like c e h =
-    at (octets 1 (value (take 1 c)) ++ each allocOctets (many allocOf 2 16 (part 1 32 c))) (take 1 c ++ part 1 32 c) c true true
-    (joint (octets 1 (value (take 1 c))) (take 1 c) (each allocOctets (many allocOf 2 16 (part 1 32 c))) (part 1 32 c) true true (number-like 1 (take 1 c) (part-length 0 1 c (omega arith)) (octets-part 0 1 c h)) (numbers-like allocOf allocOctets 2 16 (lit< tt) alloc-like (part 1 32 c) (part-length 1 32 c (omega arith)) (octets-part 1 32 c h)))
-    (grow 1 32 (take 1 c) c refl ∙ take-all 33 c (omega arith))
+    at (octets countWidth (value (take countWidth c)) ++ each allocOctets (many allocOf idWidth addedAllocs (part allocIdsAt allocIdsWidth c))) (take countWidth c ++ part allocIdsAt allocIdsWidth c) c true true
+    (joint (octets countWidth (value (take countWidth c))) (take countWidth c) (each allocOctets (many allocOf idWidth addedAllocs (part allocIdsAt allocIdsWidth c))) (part allocIdsAt allocIdsWidth c) true true (number-like countWidth (take countWidth c) (part-length 0 countWidth c (omega arith)) (octets-part 0 countWidth c h)) (numbers-like allocOf allocOctets idWidth addedAllocs (lit< tt) alloc-like (part allocIdsAt allocIdsWidth c) (part-length allocIdsAt allocIdsWidth c (omega arith)) (octets-part allocIdsAt allocIdsWidth c h)))
+    (grow allocIdsAt allocIdsWidth (take countWidth c) c refl ∙ take-all allocsWidth c (omega arith))
     refl
 
-mark-octet : (t : Bool) → octets 1 (markNumber t) ≡ markOctets t
+mark-octet : (t : Bool) → octets markWidth (markNumber t) ≡ markOctets t
 mark-octet true = refl
 mark-octet false = refl
 
-key-like : (c : List ℕ) → length c ≡ 17 → Octets c → Like (keyOctets (keyOf c)) c (markKnown (getD c 0 0))
+key-like : (c : List ℕ) → length c ≡ keyWidth → Octets c → Like (keyOctets (keyOf c)) c (markKnown (getD c heldAt 0))
 unfolding keyOf
 key-like c e h =
-    let k : Bool = markOf (take 1 c) in
-    let (l, s) = mark-like (take 1 c) (part-length 0 1 c (omega arith)) (octets-part 0 1 c h) in
-    at (octets 1 (markNumber k) ++ part 1 16 c) (take 1 c ++ part 1 16 c) c (markKnown (getD (take 1 c) 0 0) && true) (markKnown (getD c 0 0))
-    (joint (octets 1 (markNumber k)) (take 1 c) (part 1 16 c) (part 1 16 c) (markKnown (getD (take 1 c) 0 0)) true (ap length (mark-octet k) ∙ l, ap (λ (x : List ℕ). same x (take 1 c)) (mark-octet k) ∙ s) (like (part 1 16 c) (part 1 16 c) refl))
-    (grow 1 16 (take 1 c) c refl ∙ take-all 17 c (omega arith))
-    (and-true (markKnown (getD (take 1 c) 0 0)) ∙ ap markKnown (getD-take 1 c 0 0 (lit< tt)))
+    let k : Bool = markOf (take markWidth c) in
+    let (l, s) = mark-like (take markWidth c) (part-length heldAt markWidth c (omega arith)) (octets-part heldAt markWidth c h) in
+    at (octets markWidth (markNumber k) ++ part keyOctetsAt limits.keyOctets c) (take markWidth c ++ part keyOctetsAt limits.keyOctets c) c (markKnown (getD (take markWidth c) 0 0) && true) (markKnown (getD c heldAt 0))
+    (joint (octets markWidth (markNumber k)) (take markWidth c) (part keyOctetsAt limits.keyOctets c) (part keyOctetsAt limits.keyOctets c) (markKnown (getD (take markWidth c) 0 0)) true (ap length (mark-octet k) ∙ l, ap (λ (x : List ℕ). same x (take markWidth c)) (mark-octet k) ∙ s) (like (part keyOctetsAt limits.keyOctets c) (part keyOctetsAt limits.keyOctets c) refl))
+    (grow keyOctetsAt limits.keyOctets (take markWidth c) c refl ∙ take-all keyWidth c (omega arith))
+    (and-true (markKnown (getD (take markWidth c) 0 0)) ∙ ap markKnown (getD-take markWidth c 0 0 (lit< tt)))
 
-queue-like : (c : List ℕ) → length c ≡ 17 → Octets c → Like (queueOctets (queueOf c)) c (eachKnown answerKnown 2 8 (part 1 16 c))
+queue-like : (c : List ℕ) → length c ≡ queueWidth → Octets c → Like (queueOctets (queueOf c)) c (eachKnown answerKnown answerWidth mostOwed (part answersAt answersWidth c))
 unfolding queueOf
 queue-like c e h =
-    at (octets 1 (value (take 1 c)) ++ each owedOctets (many owedOf 2 8 (part 1 16 c))) (take 1 c ++ part 1 16 c) c (eachKnown answerKnown 2 8 (part 1 16 c)) (eachKnown answerKnown 2 8 (part 1 16 c))
-    (joint (octets 1 (value (take 1 c))) (take 1 c) (each owedOctets (many owedOf 2 8 (part 1 16 c))) (part 1 16 c) true (eachKnown answerKnown 2 8 (part 1 16 c)) (number-like 1 (take 1 c) (part-length 0 1 c (omega arith)) (octets-part 0 1 c h)) (each-like owedOf owedOctets 2 answerKnown (lit< tt) answer-like 8 (part 1 16 c) (part-length 1 16 c (omega arith)) (octets-part 1 16 c h)))
-    (grow 1 16 (take 1 c) c refl ∙ take-all 17 c (omega arith))
+    at (octets countWidth (value (take countWidth c)) ++ each owedOctets (many owedOf answerWidth mostOwed (part answersAt answersWidth c))) (take countWidth c ++ part answersAt answersWidth c) c (eachKnown answerKnown answerWidth mostOwed (part answersAt answersWidth c)) (eachKnown answerKnown answerWidth mostOwed (part answersAt answersWidth c))
+    (joint (octets countWidth (value (take countWidth c))) (take countWidth c) (each owedOctets (many owedOf answerWidth mostOwed (part answersAt answersWidth c))) (part answersAt answersWidth c) true (eachKnown answerKnown answerWidth mostOwed (part answersAt answersWidth c)) (number-like countWidth (take countWidth c) (part-length 0 countWidth c (omega arith)) (octets-part 0 countWidth c h)) (each-like owedOf owedOctets answerWidth answerKnown (lit< tt) answer-like mostOwed (part answersAt answersWidth c) (part-length answersAt answersWidth c (omega arith)) (octets-part answersAt answersWidth c h)))
+    (grow answersAt answersWidth (take countWidth c) c refl ∙ take-all queueWidth c (omega arith))
     refl
 
-link-like : (c : List ℕ) → length c ≡ 73 → Octets c
-    → Like (linkOctets (linkOf c)) c (markKnown (getD (part 39 17 c) 0 0) && eachKnown answerKnown 2 8 (part 1 16 (part 56 17 c)))
+link-like : (c : List ℕ) → length c ≡ linkWidth → Octets c
+    → Like (linkOctets (linkOf c)) c (markKnown (getD (part keyAt keyWidth c) 0 0) && eachKnown answerKnown answerWidth mostOwed (part answersAt answersWidth (part queueAt queueWidth c)))
 unfolding linkOf
 link-like c e h =
-    at (linkOctets (linkOf c)) ((((take 2 c ++ part 2 33 c) ++ part 35 4 c) ++ part 39 17 c) ++ part 56 17 c) c _ _
-    (joint _ (((take 2 c ++ part 2 33 c) ++ part 35 4 c) ++ part 39 17 c) _ (part 56 17 c) _ _
-    (joint _ ((take 2 c ++ part 2 33 c) ++ part 35 4 c) _ (part 39 17 c) true _
-    (joint _ (take 2 c ++ part 2 33 c) _ (part 35 4 c) true true
-    (joint _ (take 2 c) _ (part 2 33 c) true true (number-like 2 (take 2 c) (part-length 0 2 c (omega arith)) (octets-part 0 2 c h)) (allocs-like (part 2 33 c) (part-length 2 33 c (omega arith)) (octets-part 2 33 c h)))
-    (number-like 4 (part 35 4 c) (part-length 35 4 c (omega arith)) (octets-part 35 4 c h)))
-    (key-like (part 39 17 c) (part-length 39 17 c (omega arith)) (octets-part 39 17 c h)))
-    (queue-like (part 56 17 c) (part-length 56 17 c (omega arith)) (octets-part 56 17 c h)))
-    (grow 56 17 _ c (grow 39 17 _ c (grow 35 4 _ c (grow 2 33 _ c refl))) ∙ take-all 73 c (omega arith))
+    at (linkOctets (linkOf c)) ((((take idWidth c ++ part allocsAt allocsWidth c) ++ part delayAt delayWidth c) ++ part keyAt keyWidth c) ++ part queueAt queueWidth c) c _ _
+    (joint _ (((take idWidth c ++ part allocsAt allocsWidth c) ++ part delayAt delayWidth c) ++ part keyAt keyWidth c) _ (part queueAt queueWidth c) _ _
+    (joint _ ((take idWidth c ++ part allocsAt allocsWidth c) ++ part delayAt delayWidth c) _ (part keyAt keyWidth c) true _
+    (joint _ (take idWidth c ++ part allocsAt allocsWidth c) _ (part delayAt delayWidth c) true true
+    (joint _ (take idWidth c) _ (part allocsAt allocsWidth c) true true (number-like idWidth (take idWidth c) (part-length onuAt idWidth c (omega arith)) (octets-part onuAt idWidth c h)) (allocs-like (part allocsAt allocsWidth c) (part-length allocsAt allocsWidth c (omega arith)) (octets-part allocsAt allocsWidth c h)))
+    (number-like delayWidth (part delayAt delayWidth c) (part-length delayAt delayWidth c (omega arith)) (octets-part delayAt delayWidth c h)))
+    (key-like (part keyAt keyWidth c) (part-length keyAt keyWidth c (omega arith)) (octets-part keyAt keyWidth c h)))
+    (queue-like (part queueAt queueWidth c) (part-length queueAt queueWidth c (omega arith)) (octets-part queueAt queueWidth c h)))
+    (grow queueAt queueWidth _ c (grow keyAt keyWidth _ c (grow delayAt delayWidth _ c (grow allocsAt allocsWidth _ c refl))) ∙ take-all linkWidth c (omega arith))
     refl
 
-ports-like : (c : List ℕ) → length c ≡ 83 → Octets c → Like (portsOctets (portsOf c)) c (eachKnown markKnown 1 17 (part 66 17 c))
+ports-like : (c : List ℕ) → length c ≡ portsWidth → Octets c → Like (portsOctets (portsOf c)) c (eachKnown markKnown markWidth slots (part waitingAt waitingWidth c))
 unfolding portsOf
 ports-like c e h =
-    at (portsOctets (portsOf c)) ((take 32 c ++ part 32 34 c) ++ part 66 17 c) c _ _
-    (joint _ (take 32 c ++ part 32 34 c) _ (part 66 17 c) true _
-    (joint _ (take 32 c) _ (part 32 34 c) true true (numbers-like portOf portOctets 2 16 (lit< tt) port-like (take 32 c) (part-length 0 32 c (omega arith)) (octets-part 0 32 c h)) (numbers-like value lengthOctets 2 17 (lit< tt) length-like (part 32 34 c) (part-length 32 34 c (omega arith)) (octets-part 32 34 c h)))
-    (each-like markOf markOctets 1 markKnown (lit< tt) mark-like 17 (part 66 17 c) (part-length 66 17 c (omega arith)) (octets-part 66 17 c h)))
-    (grow 66 17 _ c (grow 32 34 _ c refl) ∙ take-all 83 c (omega arith))
+    at (portsOctets (portsOf c)) ((take portIdsWidth c ++ part lengthsAt lengthsWidth c) ++ part waitingAt waitingWidth c) c _ _
+    (joint _ (take portIdsWidth c ++ part lengthsAt lengthsWidth c) _ (part waitingAt waitingWidth c) true _
+    (joint _ (take portIdsWidth c) _ (part lengthsAt lengthsWidth c) true true (numbers-like portOf portOctets idWidth addedPorts (lit< tt) port-like (take portIdsWidth c) (part-length portIdsAt portIdsWidth c (omega arith)) (octets-part portIdsAt portIdsWidth c h)) (numbers-like value lengthOctets lengthWidth slots (lit< tt) length-like (part lengthsAt lengthsWidth c) (part-length lengthsAt lengthsWidth c (omega arith)) (octets-part lengthsAt lengthsWidth c h)))
+    (each-like markOf markOctets markWidth markKnown (lit< tt) mark-like slots (part waitingAt waitingWidth c) (part-length waitingAt waitingWidth c (omega arith)) (octets-part waitingAt waitingWidth c h)))
+    (grow waitingAt waitingWidth _ c (grow lengthsAt lengthsWidth _ c refl) ∙ take-all portsWidth c (omega arith))
     refl
 
-reserved-like : (x : List ℕ) → length x ≡ 1 → Like (octets 1 0) x (eqb (getD x 0 0) 0)
+reserved-like : (x : List ℕ) → length x ≡ reservedWidth → Like (octets reservedWidth 0) x (eqb (getD x 0 0) 0)
 unfolding same
 reserved-like [] e = absurd (omega arith)
 reserved-like (n ∷ []) e = (refl, and-true (eqb 0 n) ∙ eqb-sym 0 n)
@@ -308,31 +315,31 @@ in-order false m w p r = refl
 pub octets-known : (b : List ℕ) → stateBytes ≤ length b → Octets b → same (encoded (shown b)) (take stateBytes b) ≡ octetsKnown b
 unfolding encoded shown
 octets-known b r h =
-    let l : List ℕ = part 49 73 b in
-    let p : List ℕ = part 122 83 b in
-    let k : getD (part 39 17 l) 0 0 ≡ getD b 88 0 = ap (λ (x : List ℕ). getD x 0 0) (part-part 39 17 49 73 b (omega arith)) ∙ part-first 88 17 b (lit< tt) in
-    let w : part 1 16 (part 56 17 l) ≡ part 106 16 b = part-part 1 16 56 17 l (omega arith) ∙ part-part 57 16 49 73 b (omega arith) in
-    let m : part 66 17 p ≡ part 188 17 b = part-part 66 17 122 83 b (omega arith) in
-    let z : getD (part 207 1 b) 0 0 ≡ getD b 207 0 = part-first 207 1 b (lit< tt) in
-    let last : part 205 2 b ++ part 207 1 b ≡ part 205 3 b = ap (λ (x : List ℕ). part 205 2 b ++ take 1 x) (sym (drop-drop 2 205 b)) ∙ sym (take-add 2 1 (drop 205 b)) in
+    let l : List ℕ = part linkAt linkWidth b in
+    let p : List ℕ = part portsAt portsWidth b in
+    let k : getD (part keyAt keyWidth l) 0 0 ≡ getD b (linkAt + keyAt + heldAt) 0 = ap (λ (x : List ℕ). getD x 0 0) (part-part keyAt keyWidth linkAt linkWidth b (omega arith)) ∙ part-first (linkAt + keyAt) keyWidth b (lit< tt) in
+    let w : part answersAt answersWidth (part queueAt queueWidth l) ≡ part (linkAt + queueAt + answersAt) answersWidth b = part-part answersAt answersWidth queueAt queueWidth l (omega arith) ∙ part-part (queueAt + answersAt) answersWidth linkAt linkWidth b (omega arith) in
+    let m : part waitingAt waitingWidth p ≡ part (portsAt + waitingAt) waitingWidth b = part-part waitingAt waitingWidth portsAt portsWidth b (omega arith) in
+    let z : getD (part reservedAt reservedWidth b) 0 0 ≡ getD b reservedAt 0 = part-first reservedAt reservedWidth b (lit< tt) in
+    let last : part carriedAt wordsWidth b ++ part reservedAt reservedWidth b ≡ part carriedAt (wordsWidth + reservedWidth) b = ap (λ (x : List ℕ). part carriedAt wordsWidth b ++ take reservedWidth x) (sym (drop-drop wordsWidth carriedAt b)) ∙ sym (take-add wordsWidth reservedWidth (drop carriedAt b)) in
     let q =
-    joint _ (((take 5 b ++ part 5 8 b) ++ part 13 36 b) ++ l ++ p) _ (part 205 2 b ++ part 207 1 b) _ _
-    (joint _ (((take 5 b ++ part 5 8 b) ++ part 13 36 b) ++ l) _ p _ _
-    (joint _ ((take 5 b ++ part 5 8 b) ++ part 13 36 b) _ l _ _
-    (joint _ (take 5 b ++ part 5 8 b) _ (part 13 36 b) _ true
-    (joint _ (take 5 b) _ (part 5 8 b) _ true (activation-like (take 5 b) (part-length 0 5 b (omega arith)) (octets-part 0 5 b h)) (like (part 5 8 b) (part 5 8 b) refl))
-    (like (part 13 36 b) (part 13 36 b) refl))
-    (link-like l (part-length 49 73 b (omega arith)) (octets-part 49 73 b h)))
-    (ports-like p (part-length 122 83 b (omega arith)) (octets-part 122 83 b h)))
-    (joint _ (part 205 2 b) _ (part 207 1 b) true _ (number-like 2 (part 205 2 b) (part-length 205 2 b (omega arith)) (octets-part 205 2 b h)) (reserved-like (part 207 1 b) (part-length 207 1 b (omega arith))))
+    joint _ (((take activationWidth b ++ part serialAt serialOctets b) ++ part registrationAt registrationOctets b) ++ l ++ p) _ (part carriedAt wordsWidth b ++ part reservedAt reservedWidth b) _ _
+    (joint _ (((take activationWidth b ++ part serialAt serialOctets b) ++ part registrationAt registrationOctets b) ++ l) _ p _ _
+    (joint _ ((take activationWidth b ++ part serialAt serialOctets b) ++ part registrationAt registrationOctets b) _ l _ _
+    (joint _ (take activationWidth b ++ part serialAt serialOctets b) _ (part registrationAt registrationOctets b) _ true
+    (joint _ (take activationWidth b) _ (part serialAt serialOctets b) _ true (activation-like (take activationWidth b) (part-length activationAt activationWidth b (omega arith)) (octets-part activationAt activationWidth b h)) (like (part serialAt serialOctets b) (part serialAt serialOctets b) refl))
+    (like (part registrationAt registrationOctets b) (part registrationAt registrationOctets b) refl))
+    (link-like l (part-length linkAt linkWidth b (omega arith)) (octets-part linkAt linkWidth b h)))
+    (ports-like p (part-length portsAt portsWidth b (omega arith)) (octets-part portsAt portsWidth b h)))
+    (joint _ (part carriedAt wordsWidth b) _ (part reservedAt reservedWidth b) true _ (number-like wordsWidth (part carriedAt wordsWidth b) (part-length carriedAt wordsWidth b (omega arith)) (octets-part carriedAt wordsWidth b h)) (reserved-like (part reservedAt reservedWidth b) (part-length reservedAt reservedWidth b (omega arith))))
     in
     let cut =
-    ap (λ (x : List ℕ). (((take 5 b ++ part 5 8 b) ++ part 13 36 b) ++ l ++ p) ++ x) last
-    ∙ grow 205 3 _ b (grow 122 83 _ b (grow 49 73 _ b (grow 13 36 _ b (grow 5 8 _ b refl)))) in
+    ap (λ (x : List ℕ). (((take activationWidth b ++ part serialAt serialOctets b) ++ part registrationAt registrationOctets b) ++ l ++ p) ++ x) last
+    ∙ grow carriedAt (wordsWidth + reservedWidth) _ b (grow portsAt portsWidth _ b (grow linkAt linkWidth _ b (grow registrationAt registrationOctets _ b (grow serialAt serialOctets _ b refl)))) in
     ap (same (encoded (shown b))) (sym cut) ∙ q .1
-    ∙ in-order (activationKnown (take 5 b)) (markKnown (getD (part 39 17 l) 0 0)) (eachKnown answerKnown 2 8 (part 1 16 (part 56 17 l))) (eachKnown markKnown 1 17 (part 66 17 p)) (eqb (getD (part 207 1 b) 0 0) 0)
-    ∙ ap₂ (λ (x : ℕ) (y : List ℕ). activationKnown (take 5 b) && (markKnown x && (eachKnown answerKnown 2 8 y && (eachKnown markKnown 1 17 (part 66 17 p) && eqb (getD (part 207 1 b) 0 0) 0)))) k w
-    ∙ ap₂ (λ (y : List ℕ) (x : ℕ). activationKnown (take 5 b) && (markKnown (getD b 88 0) && (eachKnown answerKnown 2 8 (part 106 16 b) && (eachKnown markKnown 1 17 y && eqb x 0)))) m z
+    ∙ in-order (activationKnown (take activationWidth b)) (markKnown (getD (part keyAt keyWidth l) 0 0)) (eachKnown answerKnown answerWidth mostOwed (part answersAt answersWidth (part queueAt queueWidth l))) (eachKnown markKnown markWidth slots (part waitingAt waitingWidth p)) (eqb (getD (part reservedAt reservedWidth b) 0 0) 0)
+    ∙ ap₂ (λ (x : ℕ) (y : List ℕ). activationKnown (take activationWidth b) && (markKnown x && (eachKnown answerKnown answerWidth mostOwed y && (eachKnown markKnown markWidth slots (part waitingAt waitingWidth p) && eqb (getD (part reservedAt reservedWidth b) 0 0) 0)))) k w
+    ∙ ap₂ (λ (y : List ℕ) (x : ℕ). activationKnown (take activationWidth b) && (markKnown (getD b (linkAt + keyAt + heldAt) 0) && (eachKnown answerKnown answerWidth mostOwed (part (linkAt + queueAt + answersAt) answersWidth b) && (eachKnown markKnown markWidth slots y && eqb x 0)))) m z
 
 -- ---- tests of octets, one turn at a time
 
@@ -352,10 +359,10 @@ module _ (f : ℕ → Bool) (w n i : ℕ) (c : List ℕ) (all : Bool) where
   known-end h = let m : n - i ≡ 0 = omega arith in rw m (sym (and-true all))
 
 pub activation-tests
-    : (b : List ℕ) (n l m t : ℕ) (a : Activation) → n ≡ value (part 0 1 b) → l ≡ value (part 1 4 b) → a ≡ activationBy n l
+    : (b : List ℕ) (n l m t : ℕ) (a : Activation) → n ≡ value (part numberAt numberWidth b) → l ≡ value (part timeAt timeWidth b) → a ≡ activationBy n l
     → m ≡ stateNumber a → t ≡ timeLeft a → (eqb m n && eqb t l) ≡ activationKnown b
 unfolding activationKnown activationOf
 activation-tests b n l m t a hn hl ha hm ht =
     let e : a ≡ activationOf b = ha ∙ ap₂ activationBy hn hl in
     ap₂ (λ (x y : ℕ). eqb x y && eqb t l) (hm ∙ ap stateNumber e) hn
-    ∙ ap₂ (λ (x y : ℕ). eqb (stateNumber (activationOf b)) (value (part 0 1 b)) && eqb x y) (ht ∙ ap timeLeft e) hl
+    ∙ ap₂ (λ (x y : ℕ). eqb (stateNumber (activationOf b)) (value (part numberAt numberWidth b)) && eqb x y) (ht ∙ ap timeLeft e) hl

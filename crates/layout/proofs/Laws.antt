@@ -2,38 +2,27 @@
 -- Assumes nothing.
 use mathlib.Core.Path.{_≡_, refl, sym, ap, ap₂, _∙_}
 use mathlib.Core.List.{List, [], _∷_, _++_, append-nil}
-use Prim.Native.Nat.{ℕ, zero, suc, _+_, _-_, _*_, _%_, _^_, _≤_, _<_}
+use Prim.Native.Nat.{ℕ, zero, suc, _+_, _-_, _*_, _%_, _≤_, _<_}
 use lib.Dec.{lit<}
 use native.Mathlib.Numerals.{add-one}
 use native.Mathlib.Nat.{zero-add}
 use native.Mathlib.Omega.{arith}
-use lib.ListN.{length, getD, take, drop, set, length-append, length-drop, drop-of-length-le}
-use lib.Seq.{sets, sets-eq, take-all, drop-cons, drop-drop}
-use Rattle.framing.specs.Octets.{value, octets}
-use Rattle.link.specs.declared.Completion.{Completion}
-use Rattle.link.specs.declared.Completion.the-variants.{Ok, NoMessage, UnknownMessageType, ParameterError, ProcessingError}
-use Rattle.link.specs.Link.{completionCode}
-use Rattle.framing.specs.Writes.{put}
+use lib.ListN.{length, getD, take, drop, set, length-append, drop-of-length-le}
+use lib.Seq.{sets, sets-eq, drop-cons, drop-drop}
+use Rattle.octets.specs.Octets.{value, octets}
+use Rattle.ploam.specs.declared.Completion.{Completion}
+use Rattle.ploam.specs.declared.Completion.the-variants.{Ok, NoMessage, UnknownMessageType, ParameterError, ProcessingError}
+use Rattle.ploam.specs.Completions.{completionCode}
+use Rattle.xgem.specs.Writes.{put}
 use borrow.Rule.Slice.PartMut.{putMid}
-use Rattle.framing.proofs.Numbers.{value-step}
-use Rattle.framing.proofs.Frames.{put-behind}
+use Rattle.octets.proofs.Numbers.{all-octets}
+use Rattle.xgem.proofs.Frames.{put-behind}
 use Rattle.layout.specs.Rows.{each, many}
 
 -- ---- numbers
 
-whole : (n : ℕ) (s : List ℕ) → length s ≡ n → value (take n (drop 0 s)) ≡ value s
-whole n s e = ap value (take-all n s (omega arith))
-
 pub value-one : (s : List ℕ) → length s ≡ 1 → value s ≡ getD s 0 0
-value-one s e = sym (whole 1 s e) ∙ omega (arith, value-step s 0 0 (omega arith))
-
-pub value-two : (s : List ℕ) → length s ≡ 2 → value s ≡ getD s 0 0 * 256 + getD s 1 0
-value-two s e = sym (whole 2 s e) ∙ omega (arith, value-step s 0 1 (omega arith), value-step s 1 0 (omega arith))
-
-pub value-four : (s : List ℕ) → length s ≡ 4 → value s ≡ getD s 0 0 * 16777216 + (getD s 1 0 * 65536 + (getD s 2 0 * 256 + getD s 3 0))
-value-four s e =
-    sym (whole 4 s e)
-    ∙ omega (arith, value-step s 0 3 (omega arith), value-step s 1 2 (omega arith), value-step s 2 1 (omega arith), value-step s 3 0 (omega arith))
+value-one s e = ap value (all-octets s 1 e) ∙ omega arith
 
 -- ---- a list that is filled
 

@@ -9,48 +9,50 @@ use lib.Dec.{leb}
 use lib.ListN.{length, take, drop, length-append, take-append-drop, replicate}
 use lib.Seq.{take-at, drop-at, length-take-le}
 use borrow.Author.Tests.{le-leb, leb-true, leb-false}
-use Rattle.framing.specs.Octets.{value, octets}
-use Rattle.framing.specs.Reads.{Found, fields, unreadable, short}
-use Rattle.framing.specs.Writes.{put}
-use Rattle.framing.proofs.Numbers.{value-octets}
+use Rattle.octets.specs.Octets.{value, octets}
+use Rattle.xgem.specs.Reads.{Found, fields, unreadable, short}
+use Rattle.xgem.specs.Writes.{put}
+use Rattle.octets.proofs.Numbers.{value-octets}
 use Rattle.integrity.specs.Integrity.{same}
 use Rattle.integrity.proofs.Same.{same-refl, same-equal}
 use Rattle.station.specs.declared.Station.{Station}
 use Rattle.station.specs.Station.{powerOn}
 use Rattle.layout.specs.declared.StateRead.{StateRead}
-use Rattle.layout.specs.declared.Standing.the-variants.{Held, Unreadable, Short}
+use Rattle.layout.specs.declared.Contents.the-variants.{Held, Unreadable, Short}
+use Rattle.station.specs.Limits.{serialOctets, registrationOctets}
 use Rattle.layout.specs.Rows.{part}
-use Rattle.layout.specs.Layout.{stateBytes, activationOctets, activationOf, identityOctets, linkOctets, linkOf, portsOctets, portsOf, carriedOctets, encoded, shown, readOf, found, decoded, stored}
+use Rattle.layout.specs.Offsets.{activationAt, activationWidth, serialAt, registrationAt, linkAt, linkWidth, portsAt, portsWidth, carriedAt, wordsWidth, reservedWidth, stateBytes}
+use Rattle.layout.specs.Layout.{activationOctets, activationOf, identityOctets, linkOctets, linkOf, portsOctets, portsOf, carriedOctets, encoded, shown, readOf, found, decoded, stored}
 use Rattle.layout.specs.Typed.{Sized, Typed}
 use Rattle.layout.proofs.Laws.{joined}
 use Rattle.layout.proofs.Answers.{read-held}
 use Rattle.layout.proofs.Fields.{front, back, activation-back, link-length, link-back, ports-length, ports-back}
 
 module _ (s : Station) (t : Sized s) where
-  i2 : length (activationOctets (s .activation) ++ s .serial) ≡ 13
-  i2 = joined (activationOctets (s .activation)) (s .serial) 5 8 refl (t .serial)
+  i2 : length (activationOctets (s .activation) ++ s .serial) ≡ registrationAt
+  i2 = joined (activationOctets (s .activation)) (s .serial) serialAt serialOctets refl (t .serial)
 
-  i3 : length (identityOctets (s .activation) (s .serial) (s .registration)) ≡ 49
-  i3 = joined (activationOctets (s .activation) ++ s .serial) (s .registration) 13 36 i2 (t .registration)
+  i3 : length (identityOctets (s .activation) (s .serial) (s .registration)) ≡ linkAt
+  i3 = joined (activationOctets (s .activation) ++ s .serial) (s .registration) registrationAt registrationOctets i2 (t .registration)
 
-  a1 : length (linkOctets (s .link)) ≡ 73
+  a1 : length (linkOctets (s .link)) ≡ linkWidth
   a1 = link-length (s .link) (t .allocs) (t .key) (t .answers)
 
-  pub a2 : length (portsOctets (s .ports)) ≡ 83
+  pub a2 : length (portsOctets (s .ports)) ≡ portsWidth
   a2 = ports-length (s .ports) (t .ports) (t .lengths) (t .waiting)
 
-  pub i4 : length (identityOctets (s .activation) (s .serial) (s .registration) ++ linkOctets (s .link)) ≡ 122
-  i4 = joined (identityOctets (s .activation) (s .serial) (s .registration)) (linkOctets (s .link)) 49 73 i3 a1
+  pub i4 : length (identityOctets (s .activation) (s .serial) (s .registration) ++ linkOctets (s .link)) ≡ portsAt
+  i4 = joined (identityOctets (s .activation) (s .serial) (s .registration)) (linkOctets (s .link)) linkAt linkWidth i3 a1
 
-  pub i5 : length ((identityOctets (s .activation) (s .serial) (s .registration) ++ linkOctets (s .link)) ++ portsOctets (s .ports)) ≡ 205
-  i5 = joined (identityOctets (s .activation) (s .serial) (s .registration) ++ linkOctets (s .link)) (portsOctets (s .ports)) 122 83 i4 a2
+  pub i5 : length ((identityOctets (s .activation) (s .serial) (s .registration) ++ linkOctets (s .link)) ++ portsOctets (s .ports)) ≡ carriedAt
+  i5 = joined (identityOctets (s .activation) (s .serial) (s .registration) ++ linkOctets (s .link)) (portsOctets (s .ports)) portsAt portsWidth i4 a2
 
   pub encoded-length : length (encoded s) ≡ stateBytes
   unfolding encoded
-  encoded-length = joined ((identityOctets (s .activation) (s .serial) (s .registration) ++ linkOctets (s .link)) ++ portsOctets (s .ports)) (carriedOctets (s .carried)) 205 3 i5 refl
+  encoded-length = joined ((identityOctets (s .activation) (s .serial) (s .registration) ++ linkOctets (s .link)) ++ portsOctets (s .ports)) (carriedOctets (s .carried)) carriedAt (wordsWidth + reservedWidth) i5 refl
 
   module _ (rest : List ℕ) where
-    pub in-state : (o w : ℕ) → o + w ≤ 208 → part o w (encoded s ++ rest) ≡ part o w (encoded s)
+    pub in-state : (o w : ℕ) → o + w ≤ stateBytes → part o w (encoded s ++ rest) ≡ part o w (encoded s)
     in-state o w h = front (encoded s) rest o w (omega (arith, encoded-length))
 
 module _ (s : Station) (t : Typed s) (rest : List ℕ) where
@@ -63,17 +65,17 @@ module _ (s : Station) (t : Typed s) (rest : List ℕ) where
       let l : List ℕ = linkOctets (s .link) in
       let p : List ℕ = portsOctets (s .ports) in
       let c : List ℕ = carriedOctets (s .carried) in
-      let inner : (o w : ℕ) → o + w ≤ 49 → part o w (encoded s ++ rest) ≡ part o w i = λ o w h. in-state s (t .sized) rest o w (omega arith) ∙ front ((i ++ l) ++ p) c o w (omega (arith, (i5 s (t .sized)))) ∙ front (i ++ l) p o w (omega (arith, (i4 s (t .sized)))) ∙ front i l o w (omega (arith, (i3 s (t .sized)))) in
-      let n1 : part 0 5 (encoded s ++ rest) ≡ a = inner 0 5 (omega arith) ∙ front (a ++ s .serial) (s .registration) 0 5 (omega (arith, (i2 s (t .sized)))) ∙ refl in
-      let n2 : part 5 8 (encoded s ++ rest) ≡ s .serial = inner 5 8 (omega arith) ∙ front (a ++ s .serial) (s .registration) 5 8 (omega (arith, (i2 s (t .sized)))) ∙ back a (s .serial) 5 8 refl (t .sized .serial) in
-      let n3 : part 13 36 (encoded s ++ rest) ≡ s .registration = inner 13 36 (omega arith) ∙ back (a ++ s .serial) (s .registration) 13 36 (i2 s (t .sized)) (t .sized .registration) in
-      let n4 : part 49 73 (encoded s ++ rest) ≡ l = in-state s (t .sized) rest 49 73 (omega arith) ∙ front ((i ++ l) ++ p) c 49 73 (omega (arith, (i5 s (t .sized)))) ∙ front (i ++ l) p 49 73 (omega (arith, (i4 s (t .sized)))) ∙ back i l 49 73 (i3 s (t .sized)) (a1 s (t .sized)) in
-      let n5 : part 122 83 (encoded s ++ rest) ≡ p = in-state s (t .sized) rest 122 83 (omega arith) ∙ front ((i ++ l) ++ p) c 122 83 (omega (arith, (i5 s (t .sized)))) ∙ back (i ++ l) p 122 83 (i4 s (t .sized)) (a2 s (t .sized)) in
-      let n6 : part 205 2 (encoded s ++ rest) ≡ octets 2 (s .carried) = in-state s (t .sized) rest 205 2 (omega arith) ∙ ap (take 2) (drop-at ((i ++ l) ++ p) c 205 (i5 s (t .sized))) in
+      let inner : (o w : ℕ) → o + w ≤ linkAt → part o w (encoded s ++ rest) ≡ part o w i = λ o w h. in-state s (t .sized) rest o w (omega arith) ∙ front ((i ++ l) ++ p) c o w (omega (arith, (i5 s (t .sized)))) ∙ front (i ++ l) p o w (omega (arith, (i4 s (t .sized)))) ∙ front i l o w (omega (arith, (i3 s (t .sized)))) in
+      let n1 : part activationAt activationWidth (encoded s ++ rest) ≡ a = inner activationAt activationWidth (omega arith) ∙ front (a ++ s .serial) (s .registration) activationAt activationWidth (omega (arith, (i2 s (t .sized)))) ∙ refl in
+      let n2 : part serialAt serialOctets (encoded s ++ rest) ≡ s .serial = inner serialAt serialOctets (omega arith) ∙ front (a ++ s .serial) (s .registration) serialAt serialOctets (omega (arith, (i2 s (t .sized)))) ∙ back a (s .serial) serialAt serialOctets refl (t .sized .serial) in
+      let n3 : part registrationAt registrationOctets (encoded s ++ rest) ≡ s .registration = inner registrationAt registrationOctets (omega arith) ∙ back (a ++ s .serial) (s .registration) registrationAt registrationOctets (i2 s (t .sized)) (t .sized .registration) in
+      let n4 : part linkAt linkWidth (encoded s ++ rest) ≡ l = in-state s (t .sized) rest linkAt linkWidth (omega arith) ∙ front ((i ++ l) ++ p) c linkAt linkWidth (omega (arith, (i5 s (t .sized)))) ∙ front (i ++ l) p linkAt linkWidth (omega (arith, (i4 s (t .sized)))) ∙ back i l linkAt linkWidth (i3 s (t .sized)) (a1 s (t .sized)) in
+      let n5 : part portsAt portsWidth (encoded s ++ rest) ≡ p = in-state s (t .sized) rest portsAt portsWidth (omega arith) ∙ front ((i ++ l) ++ p) c portsAt portsWidth (omega (arith, (i5 s (t .sized)))) ∙ back (i ++ l) p portsAt portsWidth (i4 s (t .sized)) (a2 s (t .sized)) in
+      let n6 : part carriedAt wordsWidth (encoded s ++ rest) ≡ octets wordsWidth (s .carried) = in-state s (t .sized) rest carriedAt wordsWidth (omega arith) ∙ ap (take wordsWidth) (drop-at ((i ++ l) ++ p) c carriedAt (i5 s (t .sized))) in
       let f1 = ap activationOf n1 ∙ activation-back (s .activation) (t .left) in
       let f4 = ap linkOf n4 ∙ link-back (s .link) (t .sized .allocs) (t .sized .key) (t .sized .answers) (t .onu) (t .alloc-ids) (t .alloc-count) (t .delay) (t .owed-count) in
       let f5 = ap portsOf n5 ∙ ports-back (s .ports) (t .sized .ports) (t .sized .lengths) (t .sized .waiting) (t .port-ids) (t .partials) in
-      let f6 = ap value n6 ∙ value-octets 2 (s .carried) (t .carried) in
+      let f6 = ap value n6 ∙ value-octets wordsWidth (s .carried) (t .carried) in
       λ j. record { activation = f1 j; serial = n2 j; registration = n3 j; link = f4 j; ports = f5 j; carried = f6 j }
 
   -- written and read again, a state is the same, whatever stands behind it in the buffer
@@ -83,7 +85,7 @@ module _ (s : Station) (t : Typed s) (rest : List ℕ) where
       let room : stateBytes ≤ length b = omega (arith, (encoded-length s (t .sized)), length-append (encoded s) rest) in
       let front-is : take stateBytes b ≡ encoded s = take-at (encoded s) rest stateBytes (encoded-length s (t .sized)) in
       let alike : same (encoded (shown b)) (take stateBytes b) ≡ true = ap₂ same (ap encoded shown-back) front-is ∙ same-refl (encoded s) in
-      ap (λ (r : StateRead). found (r .standing) (r .station)) (sym (read-held b s room (sym shown-back) alike))
+      ap (λ (r : StateRead). found (r .contents) (r .station)) (sym (read-held b s room (sym shown-back) alike))
 
 -- ---- octets that are read are those of the state they are read as
 

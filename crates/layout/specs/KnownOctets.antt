@@ -1,18 +1,21 @@
 -- The octets of a buffer that can be no state's; every other octet belongs to a field that has all its numbers.
 -- Assumes nothing.
-use Prim.Native.Nat.{ℕ, zero, suc}
+use Prim.Native.Nat.{ℕ, zero, suc, _+_}
 use mathlib.Core.List.{List}
 use mathlib.Core.Bool.{Bool, true, _&&_, not}
 use lib.Dec.{eqb, leb}
 use lib.ListN.{getD, drop}
-use Rattle.framing.specs.Octets.{value}
+use Rattle.octets.specs.Octets.{value}
 use Rattle.station.specs.States.{stateNumber}
+use Rattle.ports.specs.Limits.{slots}
+use Rattle.link.specs.Limits.{mostOwed}
 use Rattle.layout.specs.Rows.{part}
+use Rattle.layout.specs.Offsets.{numberAt, numberWidth, timeAt, timeWidth, activationAt, activationWidth, linkAt, keyAt, heldAt, queueAt, answersAt, answerWidth, answersWidth, portsAt, waitingAt, markWidth, waitingWidth, reservedAt}
 use Rattle.layout.specs.Layout.{activationOf, timeLeft}
 
 -- the number is the state's, and the time is 0 where the state carries none
 unfoldable pub activationKnown : List ℕ → Bool
-activationKnown c = eqb (stateNumber (activationOf c)) (value (part 0 1 c)) && eqb (timeLeft (activationOf c)) (value (part 1 4 c))
+activationKnown c = eqb (stateNumber (activationOf c)) (value (part numberAt numberWidth c)) && eqb (timeLeft (activationOf c)) (value (part timeAt timeWidth c))
 
 -- a mark is 1 or 0
 abbrev pub markKnown : ℕ → Bool
@@ -27,13 +30,10 @@ abbrev pub eachKnown : (ℕ → Bool) → ℕ → ℕ → List ℕ → Bool
 eachKnown f width zero c = true
 eachKnown f width (suc n) c = f (getD c 0 0) && eachKnown f width n (drop width c)
 
--- 0    5  activation
--- 88   1  whether a key is held
--- 106 16  eight answers
--- 188 17  seventeen marks of ports that wait
--- 207  1  reserved
+-- the activation, the mark of a held key, the answers, the marks of ports that wait, and the reserved octet
 abbrev pub octetsKnown : List ℕ → Bool
 octetsKnown b =
-    activationKnown (part 0 5 b)
-    && (markKnown (getD b 88 0)
-    && (eachKnown answerKnown 2 8 (part 106 16 b) && (eachKnown markKnown 1 17 (part 188 17 b) && eqb (getD b 207 0) 0)))
+    activationKnown (part activationAt activationWidth b)
+    && (markKnown (getD b (linkAt + keyAt + heldAt) 0)
+    && (eachKnown answerKnown answerWidth mostOwed (part (linkAt + queueAt + answersAt) answersWidth b)
+    && (eachKnown markKnown markWidth slots (part (portsAt + waitingAt) waitingWidth b) && eqb (getD b reservedAt 0) 0)))

@@ -1,4 +1,5 @@
 pub mod Rows
+pub mod Offsets
 pub mod Layout
 pub mod KnownOctets
 pub mod Typed

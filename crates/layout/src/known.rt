@@ -4,18 +4,29 @@ ghost use mathlib.Core.Path.{_≡_};
 ghost use Prim.Native.Nat.{_≤_};
 ghost use lib.ListN.{length, take};
 ghost use Rattle.integrity.specs.Integrity.{same};
-ghost use Rattle.layout.specs.Layout.{encoded, shown, stateBytes};
+ghost use Rattle.link.specs.Limits.{mostOwed};
+ghost use Rattle.ports.specs.Limits.{slots};
+ghost use Rattle.layout.specs.Offsets.{activationWidth, answerWidth, answersWidth, markWidth, waitingWidth, stateBytes};
+ghost use Rattle.layout.specs.Layout.{encoded, shown};
 ghost use Rattle.layout.specs.KnownOctets.{activationKnown, markKnown, answerKnown, eachKnown};
 use super::numbers;
+use super::offsets;
 use super::reading;
 use super::writing;
 
+// In the whole state.
+const HELD_AT: usize = offsets::LINK_AT + offsets::KEY_AT + offsets::HELD_AT;
+
+const ANSWERS_AT: usize = offsets::LINK_AT + offsets::QUEUE_AT + offsets::ANSWERS_AT;
+
+const WAITING_AT: usize = offsets::PORTS_AT + offsets::WAITING_AT;
+
 fn activation_known(c: &[u8]) -> bool
-    requires { ⌜ length (now c) ≡ 5 ⌝ }
+    requires { ⌜ length (now c) ≡ activationWidth ⌝ }
     ensures { λ r. ⌜ r ≡ activationKnown (now (c .entry)) ⌝ }
 {
-    let number = numbers::number8(&c[0..1]);
-    let left = numbers::number32(&c[1..5]);
+    let number = numbers::number8(&c[offsets::NUMBER_AT..offsets::TIME_AT]);
+    let left = numbers::number32(&c[offsets::TIME_AT..offsets::ACTIVATION_WIDTH]);
     let a = reading::activation_by(number, left);
     if a.number() != number {
         return false;
@@ -37,25 +48,25 @@ fn answer_known(number: u8) -> bool
 }
 
 fn answers_known(c: &[u8]) -> bool
-    requires { ⌜ length (now c) ≡ 16 ⌝ }
-    ensures { λ r. ⌜ r ≡ eachKnown answerKnown 2 8 (now (c .entry)) ⌝ }
+    requires { ⌜ length (now c) ≡ answersWidth ⌝ }
+    ensures { λ r. ⌜ r ≡ eachKnown answerKnown answerWidth mostOwed (now (c .entry)) ⌝ }
 {
     let mut all = true;
     let mut i: usize = 0;
-    while i < 8 {
-        all = all & answer_known(c[2 * i]);
+    while i < link::MOST_OWED {
+        all = all & answer_known(c[offsets::ANSWER_WIDTH * i]);
         i += 1;
     }
     all
 }
 
 fn marks_known(c: &[u8]) -> bool
-    requires { ⌜ length (now c) ≡ 17 ⌝ }
-    ensures { λ r. ⌜ r ≡ eachKnown markKnown 1 17 (now (c .entry)) ⌝ }
+    requires { ⌜ length (now c) ≡ waitingWidth ⌝ }
+    ensures { λ r. ⌜ r ≡ eachKnown markKnown markWidth slots (now (c .entry)) ⌝ }
 {
     let mut all = true;
     let mut i: usize = 0;
-    while i < 17 {
+    while i < ports::SLOTS {
         all = all & mark_known(c[i]);
         i += 1;
     }
@@ -67,18 +78,18 @@ pub(crate) fn octets_known(b: &[u8]) -> bool
     requires { ⌜ stateBytes ≤ length (now b) ⌝ }
     ensures { λ r. ⌜ r ≡ same (encoded (shown (now (b .entry)))) (take stateBytes (now (b .entry))) ⌝ }
 {
-    let held = b[88];
-    if !activation_known(&b[0..5]) {
+    let held = b[HELD_AT];
+    if !activation_known(&b[offsets::ACTIVATION_AT..offsets::SERIAL_AT]) {
         return false;
     }
     if !mark_known(held) {
         return false;
     }
-    if !answers_known(&b[106..122]) {
+    if !answers_known(&b[ANSWERS_AT..offsets::PORTS_AT]) {
         return false;
     }
-    if !marks_known(&b[188..205]) {
+    if !marks_known(&b[WAITING_AT..offsets::CARRIED_AT]) {
         return false;
     }
-    b[207] == 0
+    b[offsets::RESERVED_AT] == 0
 }

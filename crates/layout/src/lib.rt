@@ -1,6 +1,7 @@
 // A station's state as octets at fixed offsets in a buffer that the caller lends: each state has exactly one byte form.
 mod known;
 mod numbers;
+mod offsets;
 mod reading;
 mod writing;
 
@@ -8,10 +9,10 @@ ghost use mathlib.Core.Path.{_≡_};
 ghost use Rattle.layout.specs.Layout.{readOf, stored};
 use station::Station;
 
-pub const STATE_BYTES: usize = 208;
+pub const STATE_BYTES: usize = offsets::STATE_BYTES;
 
 // What stands in a buffer: a state, octets that are no state's, or too few.
-pub enum Standing {
+pub enum Contents {
     Held,
     Unreadable,
     Short,
@@ -19,7 +20,7 @@ pub enum Standing {
 
 // The station counts only where a state is held.
 pub struct StateRead {
-    pub standing: Standing,
+    pub contents: Contents,
     pub station: Station,
 }
 
@@ -30,19 +31,19 @@ pub fn read_state(state: &[u8]) -> StateRead
     if state.len() < STATE_BYTES {
         let s = Station::power_on([0u8; 8], [0u8; 36]);
         return StateRead {
-            standing: Standing::Short,
+            contents: Contents::Short,
             station: s,
         };
     }
     let s = reading::station_in(state);
     if known::octets_known(state) {
         return StateRead {
-            standing: Standing::Held,
+            contents: Contents::Held,
             station: s,
         };
     }
     StateRead {
-        standing: Standing::Unreadable,
+        contents: Contents::Unreadable,
         station: s,
     }
 }

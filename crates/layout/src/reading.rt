@@ -2,21 +2,26 @@
 ghost use mathlib.Core.Path.{_≡_};
 ghost use Prim.Native.Nat.{_≤_};
 ghost use lib.ListN.{length};
-ghost use Rattle.framing.specs.Octets.{value};
+ghost use Rattle.octets.specs.Octets.{value};
+ghost use Rattle.station.specs.Limits.{serialOctets, registrationOctets};
+ghost use Rattle.link.specs.Limits.{addedAllocs, mostOwed, keyOctets};
+ghost use Rattle.ports.specs.Limits.{slots, addedPorts};
 ghost use Rattle.layout.specs.Rows.{many};
-ghost use Rattle.layout.specs.Layout.{stateBytes, activationBy, activationOf, responseBy, allocOf, portOf, markOf, owedOf};
+ghost use Rattle.layout.specs.Offsets.{idWidth, markWidth, lengthWidth, activationWidth, allocIdsWidth, allocsWidth, keyWidth, answerWidth, answersWidth, queueWidth, linkWidth, portIdsWidth, lengthsWidth, waitingWidth, portsWidth, stateBytes};
+ghost use Rattle.layout.specs.Layout.{activationBy, activationOf, responseBy, allocOf, portOf, markOf, owedOf};
 ghost use Rattle.layout.specs.Layout.{allocsOf, keyOf, queueOf, linkOf, portsOf, shown};
 use super::numbers;
+use super::offsets;
 use ids::AllocId;
 use ids::OnuId;
 use ids::PortId;
 use link::Allocs;
-use link::Completion;
 use link::Key;
 use link::Link;
 use link::Owed;
 use link::Queue;
 use link::Response;
+use ploam::Completion;
 use ports::Ports;
 use station::Activation;
 use station::Station;
@@ -24,19 +29,19 @@ use station::Station;
 pub(crate) fn activation_by(number: u8, left: u32) -> Activation
     ensures { λ r. ⌜ r ≡ activationBy number left ⌝ }
 {
-    if number == 2 {
+    if number == station::O23 {
         return Activation::SerialNumber;
     }
-    if number == 4 {
+    if number == station::O4 {
         return Activation::Ranging(left);
     }
-    if number == 5 {
+    if number == station::O5 {
         return Activation::Operation;
     }
-    if number == 6 {
+    if number == station::O6 {
         return Activation::Intermittent(left);
     }
-    if number == 7 {
+    if number == station::O7 {
         return Activation::EmergencyStop;
     }
     Activation::Initial
@@ -64,20 +69,20 @@ fn response_by(number: u8) -> Response
 }
 
 fn activation_in(c: &[u8]) -> Activation
-    requires { ⌜ length (now c) ≡ 5 ⌝ }
+    requires { ⌜ length (now c) ≡ activationWidth ⌝ }
     ensures { λ r. ⌜ r ≡ activationOf (now (c .entry)) ⌝ }
 {
-    let number = numbers::number8(&c[0..1]);
-    let left = numbers::number32(&c[1..5]);
+    let number = numbers::number8(&c[offsets::NUMBER_AT..offsets::TIME_AT]);
+    let left = numbers::number32(&c[offsets::TIME_AT..offsets::ACTIVATION_WIDTH]);
     activation_by(number, left)
 }
 
 fn owed_in(c: &[u8]) -> Owed
-    requires { ⌜ length (now c) ≡ 2 ⌝ }
+    requires { ⌜ length (now c) ≡ answerWidth ⌝ }
     ensures { λ r. ⌜ r ≡ owedOf (now (c .entry)) ⌝ }
 {
-    let number = numbers::number8(&c[0..1]);
-    let seq_no = numbers::number8(&c[1..2]);
+    let number = numbers::number8(&c[offsets::RESPONSE_AT..offsets::SEQ_NO_AT]);
+    let seq_no = numbers::number8(&c[offsets::SEQ_NO_AT..offsets::ANSWER_WIDTH]);
     let response = response_by(number);
     Owed {
         response: response,
@@ -86,15 +91,15 @@ fn owed_in(c: &[u8]) -> Owed
 }
 
 fn alloc_ids_in(c: &[u8]) -> [AllocId; 16]
-    requires { ⌜ length (now c) ≡ 32 ⌝ }
-    ensures { λ r. ⌜ r ≡ many allocOf 2 16 (now (c .entry)) ⌝ }
+    requires { ⌜ length (now c) ≡ allocIdsWidth ⌝ }
+    ensures { λ r. ⌜ r ≡ many allocOf idWidth addedAllocs (now (c .entry)) ⌝ }
 {
     let none = AllocId(0);
     let mut l = [none; 16];
     let mut i: usize = 0;
-    while i < 16 {
-        let at = 2 * i;
-        let end = at + 2;
+    while i < link::ADDED_ALLOCS {
+        let at = offsets::ID_WIDTH * i;
+        let end = at + offsets::ID_WIDTH;
         let one = AllocId(numbers::number16(&c[at..end]));
         l[i] = one;
         i += 1;
@@ -103,15 +108,15 @@ fn alloc_ids_in(c: &[u8]) -> [AllocId; 16]
 }
 
 fn port_ids_in(c: &[u8]) -> [PortId; 16]
-    requires { ⌜ length (now c) ≡ 32 ⌝ }
-    ensures { λ r. ⌜ r ≡ many portOf 2 16 (now (c .entry)) ⌝ }
+    requires { ⌜ length (now c) ≡ portIdsWidth ⌝ }
+    ensures { λ r. ⌜ r ≡ many portOf idWidth addedPorts (now (c .entry)) ⌝ }
 {
     let none = PortId(0);
     let mut l = [none; 16];
     let mut i: usize = 0;
-    while i < 16 {
-        let at = 2 * i;
-        let end = at + 2;
+    while i < ports::ADDED_PORTS {
+        let at = offsets::ID_WIDTH * i;
+        let end = at + offsets::ID_WIDTH;
         let one = PortId(numbers::number16(&c[at..end]));
         l[i] = one;
         i += 1;
@@ -120,14 +125,14 @@ fn port_ids_in(c: &[u8]) -> [PortId; 16]
 }
 
 fn lengths_in(c: &[u8]) -> [u16; 17]
-    requires { ⌜ length (now c) ≡ 34 ⌝ }
-    ensures { λ r. ⌜ r ≡ many value 2 17 (now (c .entry)) ⌝ }
+    requires { ⌜ length (now c) ≡ lengthsWidth ⌝ }
+    ensures { λ r. ⌜ r ≡ many value lengthWidth slots (now (c .entry)) ⌝ }
 {
     let mut l = [0u16; 17];
     let mut i: usize = 0;
-    while i < 17 {
-        let at = 2 * i;
-        let end = at + 2;
+    while i < ports::SLOTS {
+        let at = offsets::LENGTH_WIDTH * i;
+        let end = at + offsets::LENGTH_WIDTH;
         let one = numbers::number16(&c[at..end]);
         l[i] = one;
         i += 1;
@@ -136,13 +141,13 @@ fn lengths_in(c: &[u8]) -> [u16; 17]
 }
 
 fn marks_in(c: &[u8]) -> [bool; 17]
-    requires { ⌜ length (now c) ≡ 17 ⌝ }
-    ensures { λ r. ⌜ r ≡ many markOf 1 17 (now (c .entry)) ⌝ }
+    requires { ⌜ length (now c) ≡ waitingWidth ⌝ }
+    ensures { λ r. ⌜ r ≡ many markOf markWidth slots (now (c .entry)) ⌝ }
 {
     let mut l = [false; 17];
     let mut i: usize = 0;
-    while i < 17 {
-        let end = i + 1;
+    while i < ports::SLOTS {
+        let end = i + offsets::MARK_WIDTH;
         let one = numbers::number8(&c[i..end]) == 1;
         l[i] = one;
         i += 1;
@@ -151,8 +156,8 @@ fn marks_in(c: &[u8]) -> [bool; 17]
 }
 
 fn answers_in(c: &[u8]) -> [Owed; 8]
-    requires { ⌜ length (now c) ≡ 16 ⌝ }
-    ensures { λ r. ⌜ r ≡ many owedOf 2 8 (now (c .entry)) ⌝ }
+    requires { ⌜ length (now c) ≡ answersWidth ⌝ }
+    ensures { λ r. ⌜ r ≡ many owedOf answerWidth mostOwed (now (c .entry)) ⌝ }
 {
     let none = Owed {
         response: Response::Registration,
@@ -160,9 +165,9 @@ fn answers_in(c: &[u8]) -> [Owed; 8]
     };
     let mut l = [none; 8];
     let mut i: usize = 0;
-    while i < 8 {
-        let at = 2 * i;
-        let end = at + 2;
+    while i < link::MOST_OWED {
+        let at = offsets::ANSWER_WIDTH * i;
+        let end = at + offsets::ANSWER_WIDTH;
         let one = owed_in(&c[at..end]);
         l[i] = one;
         i += 1;
@@ -171,7 +176,7 @@ fn answers_in(c: &[u8]) -> [Owed; 8]
 }
 
 fn octets8(c: &[u8]) -> [u8; 8]
-    requires { ⌜ length (now c) ≡ 8 ⌝ }
+    requires { ⌜ length (now c) ≡ serialOctets ⌝ }
     ensures { λ r. ⌜ r ≡ now (c .entry) ⌝ }
 {
     let mut l = [0u8; 8];
@@ -180,7 +185,7 @@ fn octets8(c: &[u8]) -> [u8; 8]
 }
 
 fn octets16(c: &[u8]) -> [u8; 16]
-    requires { ⌜ length (now c) ≡ 16 ⌝ }
+    requires { ⌜ length (now c) ≡ keyOctets ⌝ }
     ensures { λ r. ⌜ r ≡ now (c .entry) ⌝ }
 {
     let mut l = [0u8; 16];
@@ -189,7 +194,7 @@ fn octets16(c: &[u8]) -> [u8; 16]
 }
 
 fn octets36(c: &[u8]) -> [u8; 36]
-    requires { ⌜ length (now c) ≡ 36 ⌝ }
+    requires { ⌜ length (now c) ≡ registrationOctets ⌝ }
     ensures { λ r. ⌜ r ≡ now (c .entry) ⌝ }
 {
     let mut l = [0u8; 36];
@@ -198,11 +203,11 @@ fn octets36(c: &[u8]) -> [u8; 36]
 }
 
 fn allocs_in(c: &[u8]) -> Allocs
-    requires { ⌜ length (now c) ≡ 33 ⌝ }
+    requires { ⌜ length (now c) ≡ allocsWidth ⌝ }
     ensures { λ r. ⌜ r ≡ allocsOf (now (c .entry)) ⌝ }
 {
-    let count = numbers::number8(&c[0..1]);
-    let ids = alloc_ids_in(&c[1..33]);
+    let count = numbers::number8(&c[offsets::ALLOC_COUNT_AT..offsets::ALLOC_IDS_AT]);
+    let ids = alloc_ids_in(&c[offsets::ALLOC_IDS_AT..offsets::ALLOCS_WIDTH]);
     Allocs {
         ids: ids,
         count: count as usize,
@@ -210,11 +215,11 @@ fn allocs_in(c: &[u8]) -> Allocs
 }
 
 fn key_in(c: &[u8]) -> Key
-    requires { ⌜ length (now c) ≡ 17 ⌝ }
+    requires { ⌜ length (now c) ≡ keyWidth ⌝ }
     ensures { λ r. ⌜ r ≡ keyOf (now (c .entry)) ⌝ }
 {
-    let held = numbers::number8(&c[0..1]);
-    let octets = octets16(&c[1..17]);
+    let held = numbers::number8(&c[offsets::HELD_AT..offsets::KEY_OCTETS_AT]);
+    let octets = octets16(&c[offsets::KEY_OCTETS_AT..offsets::KEY_WIDTH]);
     Key {
         held: held == 1,
         octets: octets,
@@ -222,11 +227,11 @@ fn key_in(c: &[u8]) -> Key
 }
 
 fn queue_in(c: &[u8]) -> Queue
-    requires { ⌜ length (now c) ≡ 17 ⌝ }
+    requires { ⌜ length (now c) ≡ queueWidth ⌝ }
     ensures { λ r. ⌜ r ≡ queueOf (now (c .entry)) ⌝ }
 {
-    let count = numbers::number8(&c[0..1]);
-    let answers = answers_in(&c[1..17]);
+    let count = numbers::number8(&c[offsets::OWED_COUNT_AT..offsets::ANSWERS_AT]);
+    let answers = answers_in(&c[offsets::ANSWERS_AT..offsets::QUEUE_WIDTH]);
     Queue {
         answers: answers,
         count: count as usize,
@@ -234,14 +239,14 @@ fn queue_in(c: &[u8]) -> Queue
 }
 
 fn link_in(c: &[u8]) -> Link
-    requires { ⌜ length (now c) ≡ 73 ⌝ }
+    requires { ⌜ length (now c) ≡ linkWidth ⌝ }
     ensures { λ r. ⌜ r ≡ linkOf (now (c .entry)) ⌝ }
 {
-    let onu = OnuId(numbers::number16(&c[0..2]));
-    let allocs = allocs_in(&c[2..35]);
-    let delay = numbers::number32(&c[35..39]);
-    let key = key_in(&c[39..56]);
-    let owed = queue_in(&c[56..73]);
+    let onu = OnuId(numbers::number16(&c[offsets::ONU_AT..offsets::ALLOCS_AT]));
+    let allocs = allocs_in(&c[offsets::ALLOCS_AT..offsets::DELAY_AT]);
+    let delay = numbers::number32(&c[offsets::DELAY_AT..offsets::KEY_AT]);
+    let key = key_in(&c[offsets::KEY_AT..offsets::QUEUE_AT]);
+    let owed = queue_in(&c[offsets::QUEUE_AT..offsets::LINK_WIDTH]);
     Link {
         onu: onu,
         allocs: allocs,
@@ -252,12 +257,12 @@ fn link_in(c: &[u8]) -> Link
 }
 
 fn ports_in(c: &[u8]) -> Ports
-    requires { ⌜ length (now c) ≡ 83 ⌝ }
+    requires { ⌜ length (now c) ≡ portsWidth ⌝ }
     ensures { λ r. ⌜ r ≡ portsOf (now (c .entry)) ⌝ }
 {
-    let ids = port_ids_in(&c[0..32]);
-    let lengths = lengths_in(&c[32..66]);
-    let waiting = marks_in(&c[66..83]);
+    let ids = port_ids_in(&c[offsets::PORT_IDS_AT..offsets::LENGTHS_AT]);
+    let lengths = lengths_in(&c[offsets::LENGTHS_AT..offsets::WAITING_AT]);
+    let waiting = marks_in(&c[offsets::WAITING_AT..offsets::PORTS_WIDTH]);
     Ports {
         ids: ids,
         lengths: lengths,
@@ -269,12 +274,12 @@ pub(crate) fn station_in(b: &[u8]) -> Station
     requires { ⌜ stateBytes ≤ length (now b) ⌝ }
     ensures { λ r. ⌜ r ≡ shown (now (b .entry)) ⌝ }
 {
-    let activation = activation_in(&b[0..5]);
-    let serial = octets8(&b[5..13]);
-    let registration = octets36(&b[13..49]);
-    let link = link_in(&b[49..122]);
-    let ports = ports_in(&b[122..205]);
-    let carried = numbers::number16(&b[205..207]);
+    let activation = activation_in(&b[offsets::ACTIVATION_AT..offsets::SERIAL_AT]);
+    let serial = octets8(&b[offsets::SERIAL_AT..offsets::REGISTRATION_AT]);
+    let registration = octets36(&b[offsets::REGISTRATION_AT..offsets::LINK_AT]);
+    let link = link_in(&b[offsets::LINK_AT..offsets::PORTS_AT]);
+    let ports = ports_in(&b[offsets::PORTS_AT..offsets::CARRIED_AT]);
+    let carried = numbers::number16(&b[offsets::CARRIED_AT..offsets::RESERVED_AT]);
     Station {
         activation: activation,
         serial: serial,

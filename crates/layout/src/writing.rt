@@ -1,12 +1,16 @@
 // A state's octets, field after field.
 ghost use mathlib.Core.Path.{_≡_};
-ghost use Prim.Native.Nat.{_≤_, _<_};
+ghost use Prim.Native.Nat.{_+_, _≤_, _<_};
 ghost use lib.ListN.{length};
-ghost use Rattle.framing.specs.Writes.{put};
+ghost use Rattle.xgem.specs.Writes.{put};
+ghost use Rattle.station.specs.Limits.{serialOctets, registrationOctets};
+ghost use Rattle.link.specs.Limits as limits;
 ghost use Rattle.layout.specs.Rows.{each};
-ghost use Rattle.layout.specs.Layout.{stateBytes, timeLeft, responseNumber, activationOctets, allocOctets, portOctets, lengthOctets, markNumber, markOctets, owedOctets};
+ghost use Rattle.layout.specs.Offsets.{activationWidth, allocIdsWidth, allocsWidth, keyWidth, answersWidth, queueWidth, linkWidth, portIdsWidth, lengthsWidth, waitingWidth, portsWidth, linkAt, wordsWidth, reservedWidth, stateBytes};
+ghost use Rattle.layout.specs.Layout.{timeLeft, responseNumber, activationOctets, allocOctets, portOctets, lengthOctets, markNumber, markOctets, owedOctets};
 ghost use Rattle.layout.specs.Layout.{allocsOctets, keyOctets, queueOctets, linkOctets, portsOctets, identityOctets, carriedOctets, encoded};
 use super::numbers;
+use super::offsets;
 use ids::AllocId;
 use ids::PortId;
 use link::Allocs;
@@ -48,61 +52,63 @@ fn mark(set: bool) -> u8
 }
 
 fn put_activation(a: Activation, out: &mut [u8])
-    requires { ⌜ 5 ≤ length (now out) ⌝ }
+    requires { ⌜ activationWidth ≤ length (now out) ⌝ }
     ensures { λ _. ⌜ now (out .exit) ≡ put (now (out .entry)) (activationOctets a) ⌝ }
 {
     numbers::put8(a.number(), out);
-    numbers::put32(time_left(a), &mut out[1..]);
+    numbers::put32(time_left(a), &mut out[offsets::TIME_AT..]);
 }
 
 fn put_alloc_ids(l: [AllocId; 16], out: &mut [u8])
-    requires { ⌜ 32 ≤ length (now out) ⌝ }
-    ensures { λ _. ⌜ (now (out .exit) ≡ put (now (out .entry)) (each allocOctets l)) × (length (each allocOctets l) ≡ 32) ⌝ }
+    requires { ⌜ allocIdsWidth ≤ length (now out) ⌝ }
+    ensures { λ _. ⌜ (now (out .exit) ≡ put (now (out .entry)) (each allocOctets l)) × (length (each allocOctets l) ≡ allocIdsWidth) ⌝ }
 {
     let mut i: usize = 0;
-    while i < 16 {
-        let at = 2 * i;
+    while i < link::ADDED_ALLOCS {
+        let at = offsets::ID_WIDTH * i;
         let one = l[i];
-        out[at] = (one.0 / 0x100 % 256) as u8;
-        out[at + 1] = (one.0 / 1 % 256) as u8;
+        let o = octets::split16(one.0);
+        out[at] = o[0];
+        out[at + 1] = o[1];
         i += 1;
     }
 }
 
 fn put_port_ids(l: [PortId; 16], out: &mut [u8])
-    requires { ⌜ 32 ≤ length (now out) ⌝ }
-    ensures { λ _. ⌜ (now (out .exit) ≡ put (now (out .entry)) (each portOctets l)) × (length (each portOctets l) ≡ 32) ⌝ }
+    requires { ⌜ portIdsWidth ≤ length (now out) ⌝ }
+    ensures { λ _. ⌜ (now (out .exit) ≡ put (now (out .entry)) (each portOctets l)) × (length (each portOctets l) ≡ portIdsWidth) ⌝ }
 {
     let mut i: usize = 0;
-    while i < 16 {
-        let at = 2 * i;
+    while i < ports::ADDED_PORTS {
+        let at = offsets::ID_WIDTH * i;
         let one = l[i];
-        out[at] = (one.0 / 0x100 % 256) as u8;
-        out[at + 1] = (one.0 / 1 % 256) as u8;
+        let o = octets::split16(one.0);
+        out[at] = o[0];
+        out[at + 1] = o[1];
         i += 1;
     }
 }
 
 fn put_lengths(l: [u16; 17], out: &mut [u8])
-    requires { ⌜ 34 ≤ length (now out) ⌝ }
-    ensures { λ _. ⌜ (now (out .exit) ≡ put (now (out .entry)) (each lengthOctets l)) × (length (each lengthOctets l) ≡ 34) ⌝ }
+    requires { ⌜ lengthsWidth ≤ length (now out) ⌝ }
+    ensures { λ _. ⌜ (now (out .exit) ≡ put (now (out .entry)) (each lengthOctets l)) × (length (each lengthOctets l) ≡ lengthsWidth) ⌝ }
 {
     let mut i: usize = 0;
-    while i < 17 {
-        let at = 2 * i;
-        let one = l[i];
-        out[at] = (one / 0x100 % 256) as u8;
-        out[at + 1] = (one / 1 % 256) as u8;
+    while i < ports::SLOTS {
+        let at = offsets::LENGTH_WIDTH * i;
+        let o = octets::split16(l[i]);
+        out[at] = o[0];
+        out[at + 1] = o[1];
         i += 1;
     }
 }
 
 fn put_marks(l: [bool; 17], out: &mut [u8])
-    requires { ⌜ 17 ≤ length (now out) ⌝ }
-    ensures { λ _. ⌜ (now (out .exit) ≡ put (now (out .entry)) (each markOctets l)) × (length (each markOctets l) ≡ 17) ⌝ }
+    requires { ⌜ waitingWidth ≤ length (now out) ⌝ }
+    ensures { λ _. ⌜ (now (out .exit) ≡ put (now (out .entry)) (each markOctets l)) × (length (each markOctets l) ≡ waitingWidth) ⌝ }
 {
     let mut i: usize = 0;
-    while i < 17 {
+    while i < ports::SLOTS {
         let one = mark(l[i]);
         out[i] = one;
         i += 1;
@@ -110,111 +116,111 @@ fn put_marks(l: [bool; 17], out: &mut [u8])
 }
 
 fn put_answers(l: [Owed; 8], out: &mut [u8])
-    requires { ⌜ 16 ≤ length (now out) ⌝ }
-    ensures { λ _. ⌜ (now (out .exit) ≡ put (now (out .entry)) (each owedOctets l)) × (length (each owedOctets l) ≡ 16) ⌝ }
+    requires { ⌜ answersWidth ≤ length (now out) ⌝ }
+    ensures { λ _. ⌜ (now (out .exit) ≡ put (now (out .entry)) (each owedOctets l)) × (length (each owedOctets l) ≡ answersWidth) ⌝ }
 {
     let mut i: usize = 0;
-    while i < 8 {
-        let at = 2 * i;
+    while i < link::MOST_OWED {
+        let at = offsets::ANSWER_WIDTH * i;
         let one = l[i];
         let response = one.response;
         let number = response_number(response);
         out[at] = number;
-        out[at + 1] = one.seq_no;
+        out[at + offsets::SEQ_NO_AT] = one.seq_no;
         i += 1;
     }
 }
 
 fn put_octets8(l: [u8; 8], out: &mut [u8])
-    requires { ⌜ 8 ≤ length (now out) ⌝ }
-    ensures { λ _. ⌜ (now (out .exit) ≡ put (now (out .entry)) l) × (length l ≡ 8) ⌝ }
+    requires { ⌜ serialOctets ≤ length (now out) ⌝ }
+    ensures { λ _. ⌜ (now (out .exit) ≡ put (now (out .entry)) l) × (length l ≡ serialOctets) ⌝ }
 {
     numbers::put_octets(&l, out);
 }
 
 fn put_octets16(l: [u8; 16], out: &mut [u8])
-    requires { ⌜ 16 ≤ length (now out) ⌝ }
-    ensures { λ _. ⌜ (now (out .exit) ≡ put (now (out .entry)) l) × (length l ≡ 16) ⌝ }
+    requires { ⌜ limits.keyOctets ≤ length (now out) ⌝ }
+    ensures { λ _. ⌜ (now (out .exit) ≡ put (now (out .entry)) l) × (length l ≡ limits.keyOctets) ⌝ }
 {
     numbers::put_octets(&l, out);
 }
 
 fn put_octets36(l: [u8; 36], out: &mut [u8])
-    requires { ⌜ 36 ≤ length (now out) ⌝ }
-    ensures { λ _. ⌜ (now (out .exit) ≡ put (now (out .entry)) l) × (length l ≡ 36) ⌝ }
+    requires { ⌜ registrationOctets ≤ length (now out) ⌝ }
+    ensures { λ _. ⌜ (now (out .exit) ≡ put (now (out .entry)) l) × (length l ≡ registrationOctets) ⌝ }
 {
     numbers::put_octets(&l, out);
 }
 
 fn put_allocs(a: Allocs, out: &mut [u8])
-    requires { ⌜ 33 ≤ length (now out) ⌝ }
-    ensures { λ _. ⌜ (now (out .exit) ≡ put (now (out .entry)) (allocsOctets a)) × (length (allocsOctets a) ≡ 33) ⌝ }
+    requires { ⌜ allocsWidth ≤ length (now out) ⌝ }
+    ensures { λ _. ⌜ (now (out .exit) ≡ put (now (out .entry)) (allocsOctets a)) × (length (allocsOctets a) ≡ allocsWidth) ⌝ }
 {
     let ids = a.ids;
     numbers::put8((a.count % 256) as u8, out);
-    put_alloc_ids(ids, &mut out[1..]);
+    put_alloc_ids(ids, &mut out[offsets::ALLOC_IDS_AT..]);
 }
 
 fn put_key(k: Key, out: &mut [u8])
-    requires { ⌜ 17 ≤ length (now out) ⌝ }
-    ensures { λ _. ⌜ (now (out .exit) ≡ put (now (out .entry)) (keyOctets k)) × (length (keyOctets k) ≡ 17) ⌝ }
+    requires { ⌜ keyWidth ≤ length (now out) ⌝ }
+    ensures { λ _. ⌜ (now (out .exit) ≡ put (now (out .entry)) (keyOctets k)) × (length (keyOctets k) ≡ keyWidth) ⌝ }
 {
     let octets = k.octets;
     numbers::put8(mark(k.held), out);
-    put_octets16(octets, &mut out[1..]);
+    put_octets16(octets, &mut out[offsets::KEY_OCTETS_AT..]);
 }
 
 fn put_queue(q: Queue, out: &mut [u8])
-    requires { ⌜ 17 ≤ length (now out) ⌝ }
-    ensures { λ _. ⌜ (now (out .exit) ≡ put (now (out .entry)) (queueOctets q)) × (length (queueOctets q) ≡ 17) ⌝ }
+    requires { ⌜ queueWidth ≤ length (now out) ⌝ }
+    ensures { λ _. ⌜ (now (out .exit) ≡ put (now (out .entry)) (queueOctets q)) × (length (queueOctets q) ≡ queueWidth) ⌝ }
 {
     let answers = q.answers;
     numbers::put8((q.count % 256) as u8, out);
-    put_answers(answers, &mut out[1..]);
+    put_answers(answers, &mut out[offsets::ANSWERS_AT..]);
 }
 
 fn put_link(l: Link, out: &mut [u8])
-    requires { ⌜ 73 ≤ length (now out) ⌝ }
-    ensures { λ _. ⌜ (now (out .exit) ≡ put (now (out .entry)) (linkOctets l)) × (length (linkOctets l) ≡ 73) ⌝ }
+    requires { ⌜ linkWidth ≤ length (now out) ⌝ }
+    ensures { λ _. ⌜ (now (out .exit) ≡ put (now (out .entry)) (linkOctets l)) × (length (linkOctets l) ≡ linkWidth) ⌝ }
 {
     let onu = l.onu;
     let allocs = l.allocs;
     let key = l.key;
     let owed = l.owed;
     numbers::put16(onu.0, out);
-    put_allocs(allocs, &mut out[2..]);
-    numbers::put32(l.delay, &mut out[35..]);
-    put_key(key, &mut out[39..]);
-    put_queue(owed, &mut out[56..]);
+    put_allocs(allocs, &mut out[offsets::ALLOCS_AT..]);
+    numbers::put32(l.delay, &mut out[offsets::DELAY_AT..]);
+    put_key(key, &mut out[offsets::KEY_AT..]);
+    put_queue(owed, &mut out[offsets::QUEUE_AT..]);
 }
 
 fn put_ports(p: Ports, out: &mut [u8])
-    requires { ⌜ 83 ≤ length (now out) ⌝ }
-    ensures { λ _. ⌜ (now (out .exit) ≡ put (now (out .entry)) (portsOctets p)) × (length (portsOctets p) ≡ 83) ⌝ }
+    requires { ⌜ portsWidth ≤ length (now out) ⌝ }
+    ensures { λ _. ⌜ (now (out .exit) ≡ put (now (out .entry)) (portsOctets p)) × (length (portsOctets p) ≡ portsWidth) ⌝ }
 {
     let ids = p.ids;
     let lengths = p.lengths;
     let waiting = p.waiting;
     put_port_ids(ids, out);
-    put_lengths(lengths, &mut out[32..]);
-    put_marks(waiting, &mut out[66..]);
+    put_lengths(lengths, &mut out[offsets::LENGTHS_AT..]);
+    put_marks(waiting, &mut out[offsets::WAITING_AT..]);
 }
 
 fn put_identity(a: Activation, serial: [u8; 8], registration: [u8; 36], out: &mut [u8])
-    requires { ⌜ 49 ≤ length (now out) ⌝ }
-    ensures { λ _. ⌜ (now (out .exit) ≡ put (now (out .entry)) (identityOctets a serial registration)) × (length (identityOctets a serial registration) ≡ 49) ⌝ }
+    requires { ⌜ linkAt ≤ length (now out) ⌝ }
+    ensures { λ _. ⌜ (now (out .exit) ≡ put (now (out .entry)) (identityOctets a serial registration)) × (length (identityOctets a serial registration) ≡ linkAt) ⌝ }
 {
     put_activation(a, out);
-    put_octets8(serial, &mut out[5..]);
-    put_octets36(registration, &mut out[13..]);
+    put_octets8(serial, &mut out[offsets::SERIAL_AT..]);
+    put_octets36(registration, &mut out[offsets::REGISTRATION_AT..]);
 }
 
 fn put_carried(words: u16, out: &mut [u8])
-    requires { ⌜ 3 ≤ length (now out) ⌝ }
+    requires { ⌜ wordsWidth + reservedWidth ≤ length (now out) ⌝ }
     ensures { λ _. ⌜ now (out .exit) ≡ put (now (out .entry)) (carriedOctets words) ⌝ }
 {
     numbers::put16(words, out);
-    numbers::put8(0, &mut out[2..]);
+    numbers::put8(0, &mut out[offsets::WORDS_WIDTH..]);
 }
 
 pub(crate) fn put_station(s: Station, out: &mut [u8])
@@ -227,7 +233,7 @@ pub(crate) fn put_station(s: Station, out: &mut [u8])
     let link = s.link;
     let ports = s.ports;
     put_identity(activation, serial, registration, out);
-    put_link(link, &mut out[49..]);
-    put_ports(ports, &mut out[122..]);
-    put_carried(s.carried, &mut out[205..]);
+    put_link(link, &mut out[offsets::LINK_AT..]);
+    put_ports(ports, &mut out[offsets::PORTS_AT..]);
+    put_carried(s.carried, &mut out[offsets::CARRIED_AT..]);
 }

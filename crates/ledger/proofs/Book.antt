@@ -7,7 +7,7 @@ use mathlib.Core.List.{List, [], _∷_, _++_}
 use lib.Dec.{eqb}
 use borrow.Author.Tests.{eqb-true, eq-eqb}
 use Rattle.ids.specs.Places.{some}
-use Rattle.ranges.proofs.Tests.{both, neither as neither-of, nor, not-so}
+use Rattle.validity.proofs.Tests.{both, neither as neither-of, nor, not-so}
 use Rattle.ledger.specs.Entries.{Entry, gave, tookBack, tookAllBack, neither, takesBack}
 use Rattle.ledger.specs.Ledger.{InLedger}
 

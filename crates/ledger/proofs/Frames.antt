@@ -8,7 +8,7 @@ use Rattle.station.specs.declared.Station.{Station}
 use Rattle.ports.specs.declared.Ports.{Ports}
 use Rattle.station.specs.Station.{withPorts, withCarried}
 use Rattle.timing.specs.Timing.{frameEnd}
-use Rattle.activation.specs.Receiving.{receiveAll}
+use Rattle.messages.specs.Receiving.{receiveAll}
 use Rattle.replies.specs.Replies.{repliesFrom, inPlace}
 use Rattle.ledger.specs.Events.{Event, considered, ended, replied, walked, carriedOver, stationOf, replies, messages, frame}
 use Rattle.ledger.proofs.Runs.{Kept, step}

@@ -22,8 +22,9 @@ use Rattle.link.specs.declared.Allocs.{Allocs}
 use Rattle.link.specs.Limits.{addedAllocs}
 use Rattle.station.specs.States.{holdsIdentity, o23, o4}
 use Rattle.link.specs.Link.{allocPlace}
-use Rattle.decisions.specs.Decisions.{found, isBroadcast}
-use Rattle.ranges.proofs.Tests.{both, not-so}
+use Rattle.decisions.specs.Decisions.{isBroadcast}
+use Rattle.ids.specs.Places.{isHeld}
+use Rattle.validity.proofs.Tests.{both, not-so}
 use Rattle.ledger.specs.Events.{Event, considered, ended, unread, lost, replied, walked, carriedOver, portAdded, portRemoved, keyGiven, stationOf}
 use Rattle.ledger.specs.Entries.{Entry, gave, tookBack, tookAllBack, neither, takesBack}
 use Rattle.ledger.specs.Messages.{inState, isOwn, byAssignOnuId, acceptsAllocId, byType, byAssignAllocId, byDeactivate, disabling, byDisable, byContent, heeds, byMessage}
@@ -67,7 +68,7 @@ module _ (s : Station) (b : Bool) (m : List ℕ) (n : ℕ) where
 
   by-type : (allocs : Allocs) (c : AllocChange) → byType allocs (allocIn m) c ≡ gave n → n ≡ number16 m 5 % 16384
   by-type allocs Assign e =
-      or-nothing (found (allocPlace allocs (allocIn m)) || ltb (allocs .count) addedAllocs) (number16 m 5 % 16384) n e .1
+      or-nothing (isHeld (allocPlace allocs (allocIn m)) || ltb (allocs .count) addedAllocs) (number16 m 5 % 16384) n e .1
   by-type allocs Deallocate e = clash (cc)
   by-type allocs OtherChange e = clash (cc)
 

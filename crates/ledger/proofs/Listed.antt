@@ -15,10 +15,10 @@ use Rattle.link.specs.declared.Allocs.{Allocs}
 use Rattle.link.specs.Limits.{addedAllocs}
 use Rattle.link.specs.Link.{heldAllocs, allocPlace}
 use Rattle.station.specs.Station.{powerOn}
-use Rattle.ranges.specs.Ranges.{proper, allocsFit}
+use Rattle.validity.specs.Ranges.{proper, allocsFit}
 use Rattle.entries.specs.declared.Own.{Own}
-use Rattle.decisions.specs.Decisions.{found}
-use Rattle.ranges.proofs.Tests.{both}
+use Rattle.ids.specs.Places.{isHeld}
+use Rattle.validity.proofs.Tests.{both}
 use Rattle.ledger.specs.Events.{Event, stationOf}
 use Rattle.ledger.specs.Ledger.{holds}
 use Rattle.ledger.specs.Promises.{AllocsListed}
@@ -38,7 +38,7 @@ module _ (a : Allocs) (l : length (a .ids) ≡ addedAllocs) (f : allocsFit a ≡
       simp length-take (omega arith)
 
 -- no ONU-ID is the number of an Alloc-ID
-held-found : (o : Own) → Fine o → (id : AllocId) → assignableAlloc id ≡ true → holdsOwn o (id .0) ≡ found (allocPlace (o .allocs) id)
+held-found : (o : Own) → Fine o → (id : AllocId) → assignableAlloc id ≡ true → holdsOwn o (id .0) ≡ isHeld (allocPlace (o .allocs) id)
 held-found o f id a = rw (apart o f id a (id .0) (eq-eqb (id .0) (id .0) refl)) (sym (found-among (o .allocs) id))
 
 pub listed : (first : Station) (h : List Event) → Kept first h → AllocsListed first h

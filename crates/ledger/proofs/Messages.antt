@@ -28,7 +28,7 @@ use Rattle.station.specs.declared.Activation.the-variants.{Initial, SerialNumbe
 use Rattle.station.specs.declared.Station.{Station}
 use Rattle.link.specs.declared.Allocs.{Allocs}
 use Rattle.link.specs.declared.Queue.{Queue}
-use Rattle.link.specs.declared.Completion.the-variants.{Ok, ParameterError, ProcessingError}
+use Rattle.ploam.specs.declared.Completion.the-variants.{Ok, ParameterError, ProcessingError}
 use Rattle.link.specs.Limits.{addedAllocs, mostOwed}
 use Rattle.station.specs.States.{holdsIdentity, stateNumber, o23, o4, o5, o7}
 use Rattle.link.specs.Link.{allocPlace, heldAllocs}
@@ -37,17 +37,18 @@ use Rattle.effects.specs.declared.Change.the-variants.{Keep, Identify, Range, D
 use Rattle.effects.specs.declared.Debt.{Debt}
 use Rattle.effects.specs.declared.Debt.the-variants.{Free, Owes}
 use Rattle.effects.specs.declared.Effect.{Effect}
-use Rattle.effects.specs.declared.ranging.Target.{Target}
-use Rattle.effects.specs.declared.ranging.Target.the-variants.{To, Outside}
+use Rattle.decisions.specs.declared.ranging.Target.{Target}
+use Rattle.decisions.specs.declared.ranging.Target.the-variants.{To, Outside}
 use Rattle.effects.specs.Effects.{ignored, does, answers}
-use Rattle.effects.specs.Ranging.{absolute, moved, answered, unanswered, rangingTime}
+use Rattle.decisions.specs.Ranging.{absolute, moved, answered, unanswered, rangingTime}
 use Rattle.decisions.specs.Decisions as decided
-use Rattle.decisions.specs.Decisions.{found, assignOnuId, allocChange, assignAllocId, requestRegistration, deactivate, switchOff, switchOn, disable, unknownType, isBroadcast, isOurs, effectOf, room, fitting}
+use Rattle.decisions.specs.Decisions.{assignOnuId, allocChange, assignAllocId, requestRegistration, deactivate, switchOff, switchOn, disable, unknownType, isBroadcast, isOurs, effectOf, room, fitting}
+use Rattle.ids.specs.Places.{isHeld}
 use Rattle.effects.specs.Changes.{identify, range, setDelay, applyChange, applyDebt, applied}
 use Rattle.decisions.specs.Acts.{act}
 use Rattle.decisions.proofs.Acting.{act-forged}
-use Rattle.activation.specs.Receiving.{acting, receive}
-use Rattle.ranges.proofs.Tests.{both}
+use Rattle.messages.specs.Receiving.{acting, receive}
+use Rattle.validity.proofs.Tests.{both}
 use Rattle.ledger.specs.Entries.{Entry, gave, tookBack, tookAllBack, neither}
 use Rattle.ledger.specs.Messages.{isOwn, byAssignOnuId, acceptsAllocId, byType, byAssignAllocId, byDeactivate, disabling, byDisable, byContent, heeds, byMessage}
 use Rattle.ledger.specs.Plan.{ownOf}
@@ -243,14 +244,14 @@ module _ (s : Station) (f : Fine (ownOf s)) where
 
   owing : (q : Queue) (seq : ℕ) (id : AllocId) (change : AllocChange) → room q (allocChange allocs seq id change .debt) ≡ not (leb mostOwed (q .count))
   owing q seq id Assign =
-      choose (λ (e : Effect). room q (e .debt) ≡ not (leb mostOwed (q .count))) (found (allocPlace allocs id)) _ _ (λ h. refl)
+      choose (λ (e : Effect). room q (e .debt) ≡ not (leb mostOwed (q .count))) (isHeld (allocPlace allocs id)) _ _ (λ h. refl)
       (λ h. choose (λ (e : Effect). room q (e .debt) ≡ not (leb mostOwed (q .count))) (leb addedAllocs (allocs .count)) _ _ (λ k. refl) (λ k. refl))
   owing q seq id Deallocate =
-      choose (λ (e : Effect). room q (e .debt) ≡ not (leb mostOwed (q .count))) (found (allocPlace allocs id)) _ _ (λ h. refl) (λ h. refl)
+      choose (λ (e : Effect). room q (e .debt) ≡ not (leb mostOwed (q .count))) (isHeld (allocPlace allocs id)) _ _ (λ h. refl) (λ h. refl)
   owing q seq id OtherChange = refl
 
   -- held already: given again, unchanged
-  given-again : (id : AllocId) (n : ℕ) → found (allocPlace allocs id) ≡ true → posted (gave (id .0)) (holdsOwn (ownOf s)) n ≡ holdsOwn (ownOf s) n
+  given-again : (id : AllocId) (n : ℕ) → isHeld (allocPlace allocs id) ≡ true → posted (gave (id .0)) (holdsOwn (ownOf s)) n ≡ holdsOwn (ownOf s) n
   given-again id n h = go (eqb n (id .0)) refl
     where
       absorbs : (a b : Bool) → b ≡ true → true ≡ (a || b)
@@ -265,7 +266,7 @@ module _ (s : Station) (f : Fine (ownOf s)) where
 
   -- not held: nothing is there to take back
   none-taken
-      : (id : AllocId) (n : ℕ) → assignableAlloc id ≡ true → found (allocPlace allocs id) ≡ false
+      : (id : AllocId) (n : ℕ) → assignableAlloc id ≡ true → isHeld (allocPlace allocs id) ≡ false
       → posted (tookBack (id .0)) (holdsOwn (ownOf s)) n ≡ holdsOwn (ownOf s) n
   none-taken id n a h = go (eqb n (id .0)) refl
     where
@@ -278,17 +279,17 @@ module _ (s : Station) (f : Fine (ownOf s)) where
   by-type
       : (seq : ℕ) (id : AllocId) → s .activation ≡ Operation → assignableAlloc id ≡ true → (change : AllocChange)
       → Fits s (allocChange allocs seq id change) (byType allocs id change)
-  by-type seq id o a Assign = go (found (allocPlace allocs id)) refl (leb addedAllocs (allocs .count)) refl
+  by-type seq id o a Assign = go (isHeld (allocPlace allocs id)) refl (leb addedAllocs (allocs .count)) refl
     where
       go
-          : (x : Bool) → found (allocPlace allocs id) ≡ x → (y : Bool) → leb addedAllocs (allocs .count) ≡ y
+          : (x : Bool) → isHeld (allocPlace allocs id) ≡ x → (y : Bool) → leb addedAllocs (allocs .count) ≡ y
           → Fits s (cond x (answers Keep Ok seq) (cond y (answers Keep ProcessingError seq) (answers (AddAlloc id) Ok seq)))
           (cond (x || ltb (allocs .count) addedAllocs) (gave (id .0)) neither)
       go true h y k = λ n. given-again id n h
       go false h true k = λ n. rw (ltb-not (allocs .count) addedAllocs, k)
       go false h false k = rw (ltb-not (allocs .count) addedAllocs, k) (o, a, h, leb-false addedAllocs (allocs .count) k, refl)
   by-type seq id o a Deallocate =
-      choose (λ (e : Effect). Fits s e (tookBack (id .0))) (found (allocPlace allocs id)) _ _ (λ h. (o, a, h, refl)) (λ h n. none-taken id n a h)
+      choose (λ (e : Effect). Fits s e (tookBack (id .0))) (isHeld (allocPlace allocs id)) _ _ (λ h. (o, a, h, refl)) (λ h n. none-taken id n a h)
   by-type seq id o a OtherChange = λ n. refl
 
   assign-alloc

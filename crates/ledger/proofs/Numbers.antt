@@ -19,10 +19,10 @@ use Rattle.link.specs.Limits.{addedAllocs}
 use Rattle.ids.specs.Places.{placeFrom, some}
 use Rattle.link.specs.Link.{noAlloc, heldAllocs, allocPlace, addAlloc, removeAlloc, removeAt}
 use Rattle.ids.proofs.Places.{place-held}
-use Rattle.ranges.specs.Ranges.{proper, allocsFit}
-use Rattle.decisions.specs.Decisions.{found}
-use Rattle.ranges.proofs.Tests.{both, not-so}
-use Rattle.conduct.proofs.Lists.{found-some, without, closed-up}
+use Rattle.validity.specs.Ranges.{proper, allocsFit}
+use Rattle.ids.specs.Places.{isHeld}
+use Rattle.validity.proofs.Tests.{both, not-so}
+use Rattle.invariants.proofs.Lists.{found-some, without, closed-up}
 
 -- one of the list has the number n
 abbrev pub among : List AllocId → ℕ → Bool
@@ -122,13 +122,13 @@ module _ (id : AllocId) (n : ℕ) where
           other-goes x (among (without i l) n) (among l n) t (ih (r .1) (rw k at e))
 
 pub removed-among
-    : (a : Allocs) (id : AllocId) (n : ℕ) → length (a .ids) ≡ addedAllocs → allocsFit a ≡ true → found (allocPlace a id) ≡ true
+    : (a : Allocs) (id : AllocId) (n : ℕ) → length (a .ids) ≡ addedAllocs → allocsFit a ≡ true → isHeld (allocPlace a id) ≡ true
     → among (heldAllocs (removeAlloc a id)) n ≡ (not (eqb n (id .0)) && among (heldAllocs a) n)
 unfolding allocsFit
 removed-among a id n l f h = go (allocPlace a id) refl h
   where
     go
-        : (p : Place) → allocPlace a id ≡ p → found p ≡ true
+        : (p : Place) → allocPlace a id ≡ p → isHeld p ≡ true
         → among (heldAllocs (removeAt a p)) n ≡ (not (eqb n (id .0)) && among (heldAllocs a) n)
     go (At i) e t =
         let b = both (leb (a .count) addedAllocs) _ f in
@@ -139,7 +139,7 @@ removed-among a id n l f h = go (allocPlace a id) refl h
         rw (closed-up noAlloc i (a .count) (a .ids) (k .0) (omega arith)) (goes id n (heldAllocs a) 0 i (b .1) q)
     go Nowhere e t = absurd (false≢true t)
 
--- ---- found or not
+-- ---- held or not
 
-pub found-among : (a : Allocs) (id : AllocId) → found (allocPlace a id) ≡ among (heldAllocs a) (id .0)
+pub found-among : (a : Allocs) (id : AllocId) → isHeld (allocPlace a id) ≡ among (heldAllocs a) (id .0)
 found-among a id = found-some (sameAlloc id) 0 (heldAllocs a)

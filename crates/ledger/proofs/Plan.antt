@@ -17,8 +17,9 @@ use Rattle.station.specs.Station.{powerOn}
 use Rattle.link.specs.Link.{noAllocs}
 use Rattle.entries.specs.declared.Own.{Own}
 use Rattle.entries.specs.Limits.{lastStart}
-use Rattle.entries.specs.Standings.{continues, held, discovery, ranging, oursIn, ours, silent}
-use Rattle.ranges.proofs.Tests.{both, join}
+use Rattle.entries.specs.Standings.{continues, held, discovery, ranging, oursIn, ours}
+use Rattle.station.specs.States.{silent}
+use Rattle.validity.proofs.Tests.{both, join}
 use Rattle.ledger.specs.Events.{Event, stationOf}
 use Rattle.ledger.specs.Ledger.{holds}
 use Rattle.ledger.specs.Plan.{ownAt, Listed, Discovery, OursAfter, NumberOf}

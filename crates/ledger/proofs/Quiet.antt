@@ -13,7 +13,7 @@ use Rattle.ports.specs.declared.Ports.{Ports}
 use Rattle.link.specs.Link.{withKey, installed}
 use Rattle.ports.specs.Ports.{addPort, removePort}
 use Rattle.station.specs.Station.{withLink, withPorts, withCarried}
-use Rattle.activation.specs.Replying.{afterIn, afterReply}
+use Rattle.replies.specs.Replying.{afterIn, afterReply}
 use Rattle.host.specs.Host.{done, answerToAdd, answerToRemove, answerToKey, afterAdd, afterRemove, afterKey}
 use Rattle.entries.specs.declared.Own.{Own}
 use Rattle.ledger.specs.Ledger.{holds}

@@ -10,8 +10,8 @@ use Rattle.station.specs.declared.Activation.the-variants.{Initial, SerialNumbe
 use Rattle.station.specs.declared.Station.{Station}
 use Rattle.station.specs.States.{holdsIdentity, o4}
 use Rattle.station.specs.Station.{powerOn}
-use Rattle.ranges.specs.Ranges.{identityFits, allocsFit}
-use Rattle.activation.specs.Receiving.{receive}
+use Rattle.validity.specs.Ranges.{identityFits, allocsFit}
+use Rattle.messages.specs.Receiving.{receive}
 use Rattle.entries.specs.declared.Own.{Own}
 use Rattle.effects.specs.declared.Change.{Change}
 use Rattle.effects.specs.declared.Change.the-variants.{Keep, Identify, Range, Delay, AddAlloc, RemoveAlloc, Enter}

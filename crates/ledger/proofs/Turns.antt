@@ -16,12 +16,12 @@ use Rattle.link.specs.Limits.{addedAllocs}
 use Rattle.station.specs.Limits.{to1}
 use Rattle.station.specs.States.{holdsIdentity}
 use Rattle.link.specs.Link.{noAllocs, heldAllocs, allocPlace, addAlloc, removeAlloc}
-use Rattle.ranges.specs.Ranges.{identityFits, allocsFit}
+use Rattle.validity.specs.Ranges.{identityFits, allocsFit}
 use Rattle.entries.specs.declared.Own.{Own}
-use Rattle.decisions.specs.Decisions.{found}
-use Rattle.ranges.proofs.Tests.{both}
-use Rattle.conduct.proofs.InRangeTimes.{identity-moves}
-use Rattle.conduct.proofs.InRangeLists.{added, removed}
+use Rattle.ids.specs.Places.{isHeld}
+use Rattle.validity.proofs.Tests.{both}
+use Rattle.invariants.proofs.InRangeTimes.{identity-moves}
+use Rattle.invariants.proofs.InRangeLists.{added, removed}
 use Rattle.ledger.specs.Entries.{Entry, gave, tookBack, neither}
 use Rattle.ledger.proofs.Book.{posted}
 use Rattle.ledger.proofs.Numbers.{swapped, among, added-among, removed-among}
@@ -71,11 +71,11 @@ Allowed o (goes a) x =
     (holdsIdentity (o .activation) ≡ true) × (holdsIdentity a ≡ true) × (mayHold a ≡ false → mayHold (o .activation) ≡ false)
     × (x ≡ neither)
 Allowed o (adds id) x =
-    (o .activation ≡ Operation) × (assignableAlloc id ≡ true) × (found (allocPlace (o .allocs) id) ≡ false)
+    (o .activation ≡ Operation) × (assignableAlloc id ≡ true) × (isHeld (allocPlace (o .allocs) id) ≡ false)
     × (o .allocs .count < addedAllocs)
     × (x ≡ gave (id .0))
 Allowed o (drops id) x =
-    (o .activation ≡ Operation) × (assignableAlloc id ≡ true) × (found (allocPlace (o .allocs) id) ≡ true) × (x ≡ tookBack (id .0))
+    (o .activation ≡ Operation) × (assignableAlloc id ≡ true) × (isHeld (allocPlace (o .allocs) id) ≡ true) × (x ≡ tookBack (id .0))
 Allowed o (forgets a) x = (holdsIdentity a ≡ false) × ((n : ℕ) → posted x (holdsOwn o) n ≡ false)
 
 -- ---- what is held stays in range

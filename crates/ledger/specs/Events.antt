@@ -8,8 +8,8 @@ use Rattle.station.specs.declared.Station.{Station}
 use Rattle.ports.specs.declared.Ports.{Ports}
 use Rattle.station.specs.Station.{withPorts, withCarried}
 use Rattle.timing.specs.Timing.{frameEnd, lostTime, unreadTime}
-use Rattle.activation.specs.Receiving.{receive}
-use Rattle.activation.specs.Replying.{afterReply}
+use Rattle.messages.specs.Receiving.{receive}
+use Rattle.replies.specs.Replying.{afterReply}
 use Rattle.host.specs.Host.{afterAdd, afterRemove, afterKey}
 
 pub data Event : Type 0 where

@@ -22,7 +22,8 @@ use Rattle.link.specs.declared.Allocs.{Allocs}
 use Rattle.link.specs.Limits.{addedAllocs, mostOwed}
 use Rattle.station.specs.States.{holdsIdentity, stateNumber, o23, o5}
 use Rattle.link.specs.Link.{allocPlace}
-use Rattle.decisions.specs.Decisions.{sameSerial, found, isBroadcast, isOurs}
+use Rattle.decisions.specs.Decisions.{sameSerial, isBroadcast, isOurs}
+use Rattle.ids.specs.Places.{isHeld}
 use Rattle.ledger.specs.Entries.{Entry, gave, tookBack, tookAllBack, neither}
 
 abbrev pub inState : ℕ → Station → Bool
@@ -43,7 +44,7 @@ acceptsAllocId s broadcast id =
 
 -- type 1 gave, where it found fewer than 16 held or the ID held already; type 255 took back
 abbrev pub byType : Allocs → AllocId → AllocChange → Entry
-byType allocs id Assign = cond (found (allocPlace allocs id) || ltb (allocs .count) addedAllocs) (gave (id .0)) neither
+byType allocs id Assign = cond (isHeld (allocPlace allocs id) || ltb (allocs .count) addedAllocs) (gave (id .0)) neither
 byType allocs id Deallocate = tookBack (id .0)
 byType allocs id OtherChange = neither
 

@@ -7,13 +7,14 @@ use mathlib.Core.Logic.{_↔_}
 use mathlib.Core.Bool.{Bool, true, false, _||_}
 use mathlib.Core.List.{List}
 use Rattle.xgtc.specs.declared.allocation.Allocation.{Allocation}
-use Rattle.framing.specs.Reads.{Found, fields}
+use Rattle.xgem.specs.Reads.{Found, fields}
 use Rattle.station.specs.declared.Activation.the-variants.{SerialNumber, Ranging, Operation}
 use Rattle.station.specs.declared.Station.{Station}
 use Rattle.station.specs.States.{holdsIdentity}
 use Rattle.entries.specs.declared.Own.{Own}
 use Rattle.entries.specs.Limits.{lastStart}
-use Rattle.entries.specs.Standings.{startUnfit, noRoom, continues, ours, silent, Mine}
+use Rattle.entries.specs.Standings.{startUnfit, noRoom, continues, ours, Mine}
+use Rattle.station.specs.States.{silent}
 use Rattle.ledger.specs.Events.{Event, stationOf}
 use Rattle.ledger.specs.Ledger.{ledger, InLedger}
 

@@ -14,8 +14,8 @@ use Rattle.station.specs.declared.Station.{Station}
 use Rattle.station.specs.Limits.{to1, to2}
 use Rattle.station.specs.States.{o4}
 use Rattle.link.specs.Link.{heldAllocs, allocPlace}
-use Rattle.ranges.specs.Ranges.{proper}
-use Rattle.decisions.specs.Decisions.{found}
+use Rattle.validity.specs.Ranges.{proper}
+use Rattle.ids.specs.Places.{isHeld}
 use Rattle.ledger.specs.Events.{Event, considered, ended, unread, lost, stationOf}
 use Rattle.ledger.specs.Entries.{gave, neither, takesBack}
 use Rattle.ledger.specs.Messages.{byMessage}
@@ -61,4 +61,4 @@ pub record AllocsListed (first : Station) (h : List Event) : Type 0 where
   pub many : length (heldAllocs (stationOf first h .link .allocs)) ≡ stationOf first h .link .allocs .count
   pub listed
       : (id : AllocId) → assignableAlloc id ≡ true
-      → InLedger (ledger first h) (id .0) ↔ (found (allocPlace (stationOf first h .link .allocs) id) ≡ true)
+      → InLedger (ledger first h) (id .0) ↔ (isHeld (allocPlace (stationOf first h .link .allocs) id) ≡ true)

@@ -8,9 +8,7 @@ use lib.Dec.{leb, ltb, eqb}
 use Rattle.ids.specs.declared.OnuId.{OnuId}
 use Rattle.ids.specs.declared.AllocId.{AllocId}
 use Rattle.ids.specs.Ids.{sameAlloc, broadcastOnu}
-use Rattle.link.specs.declared.Completion.{Completion}
-use Rattle.link.specs.declared.Completion.the-variants.{Ok, NoMessage, UnknownMessageType, ParameterError, ProcessingError}
-use Rattle.link.specs.declared.Response.the-variants.{Registration, Acknowledgement}
+use Rattle.link.specs.declared.Response.the-variants.{Registration}
 use Rattle.link.specs.declared.Owed.{Owed}
 use Rattle.link.specs.declared.Key.{Key}
 use Rattle.link.specs.declared.Allocs.{Allocs}
@@ -21,14 +19,6 @@ use Rattle.ids.specs.declared.Place.the-variants.{At, Nowhere}
 use Rattle.link.specs.Limits.{addedAllocs, mostOwed, keyOctets}
 use Rattle.ids.specs.Places.{placeFrom}
 use Rattle.link.specs.Lists.{closeUp}
-
--- 11.3.4.4
-abbrev pub completionCode : Completion → ℕ
-completionCode Ok = 0
-completionCode NoMessage = 1
-completionCode UnknownMessageType = 3
-completionCode ParameterError = 4
-completionCode ProcessingError = 5
 
 -- ---- nothing held: what is no longer looked at is overwritten, so that equal histories give equal states
 

@@ -7,40 +7,21 @@ ghost use Rattle.ids.specs.Ids.{sameAlloc};
 ghost use Rattle.ids.specs.Places.{placeFrom, Below};
 ghost use Rattle.link.specs.Limits.{addedAllocs, mostOwed};
 ghost use Rattle.link.specs.Lists.{closeUp};
-ghost use Rattle.link.specs.Link.{completionCode, noAlloc, blank, noKey, noAllocs, noneOwed, nothing, installed};
+ghost use Rattle.link.specs.Link.{noAlloc, blank, noKey, noAllocs, noneOwed, nothing, installed};
 ghost use Rattle.link.specs.Link.{allocPlace, addAlloc, removeAlloc, owe, paid, oldest};
 ghost use Rattle.link.specs.Link.{withOnu, withDelay, withKey, withAllocs, withOwed};
 use ids::AllocId;
 use ids::OnuId;
 use ids::Place;
+use ploam::Completion;
 
 // Of the added Alloc-IDs and of the answers owed, at most so many.
 pub const ADDED_ALLOCS: usize = 16;
 
 pub const MOST_OWED: usize = 8;
 
-// Completion codes of the Acknowledgement, 11.3.4.4: those that a station of ours sends.
-pub enum Completion {
-    Ok,
-    NoMessage,
-    UnknownMessageType,
-    ParameterError,
-    ProcessingError,
-}
-
-impl Completion {
-    pub fn code(self) -> u8
-        ensures { λ r. ⌜ r ≡ completionCode self ⌝ }
-    {
-        match self {
-            Completion::Ok => 0,
-            Completion::NoMessage => 1,
-            Completion::UnknownMessageType => 3,
-            Completion::ParameterError => 4,
-            Completion::ProcessingError => 5,
-        }
-    }
-}
+// Octets of a key, 15.6.2.
+pub const KEY_OCTETS: usize = 16;
 
 // What an upstream message answers.
 pub enum Response {

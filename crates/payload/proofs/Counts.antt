@@ -9,37 +9,37 @@ use native.Mathlib.Omega.{arith}
 use lib.ListN.{length, take, drop, length-append, length-drop, take-append-drop}
 use lib.Seq.{length-take-le}
 use Rattle.ids.specs.declared.PortId.{PortId}
-use Rattle.framing.proofs.Numbers.{octets-length}
+use Rattle.xgem.proofs.Numbers.{octets-length}
 use Rattle.ports.specs.Limits.{slots, slotBytes}
-use Rattle.fragments.specs.declared.Effect.{Effect}
-use Rattle.fragments.specs.declared.Effect.the-variants.{Nothing, Discard, Deliver, Append}
-use Rattle.fragments.specs.Fragments.{effectOf}
+use Rattle.fragments.specs.declared.Reassembly.{Reassembly}
+use Rattle.fragments.specs.declared.Reassembly.the-variants.{Ignored, Dropped, Delivered, Appended}
+use Rattle.fragments.specs.Fragments.{reassemblyOf}
 use Rattle.fragments.specs.Within.{Within}
-use Rattle.fragments.proofs.Effects.{effect-within}
 use Rattle.payload.specs.Frames.{Xgem}
-use Rattle.payload.specs.Memory.{Receiver, after, put, delivery, partial, memoryAfter, deliveriesAfter, bytesAfter, done, taken, step}
+use Rattle.payload.specs.Memory.{Receiver, put, delivery, partial, done, taken, step}
 use Rattle.payload.specs.Bounds.{Ready}
 use Rattle.payload.specs.Walk.{steps}
 use Rattle.payload.specs.Deliveries.{deliveryOf, deliveriesOf}
 use Rattle.payload.proofs.Put.{put-put}
-use Rattle.payload.proofs.Steps.{ready-less, ready-step, length-partial, length-delivery}
+use Rattle.payload.proofs.Slots.{length-partial}
+use Rattle.payload.proofs.Steps.{ready-less, ready-step, within-taken, length-delivery}
 
 put-nothing : (d : List ℕ) (at : ℕ) → put d at [] ≡ d
 unfolding put
 put-nothing d at = ap (λ (n : ℕ). take at d ++ drop n d) (add-zero at) ∙ take-append-drop at d
 
 -- what one frame adds
-added : (s : Receiver) (e : Effect) (port : PortId) (body : List ℕ) → Ready s (4 + length body) → Within (s .ports) e (length body)
-    → (deliveriesAfter (s .deliveries) (s .bytes) (s .memory) e port body ≡ put (s .deliveries) (s .bytes) (deliveryOf (s .memory) e port body))
-    × (bytesAfter (s .bytes) e (length body) ≡ s .bytes + length (deliveryOf (s .memory) e port body))
-unfolding deliveriesAfter bytesAfter
-added s Nothing port body r w = (sym (put-nothing (s .deliveries) (s .bytes)), sym (add-zero (s .bytes)))
-added s (Discard i b) port body r w = (sym (put-nothing (s .deliveries) (s .bytes)), sym (add-zero (s .bytes)))
-added s (Deliver i have) port body r w =
-    let l : length (partial (s .memory) i have) ≡ have = length-partial (s .memory) i have (omega (arith, w .0, w .2, r .memory)) in
+added : (s : Receiver) (e : Reassembly) (port : PortId) (body : List ℕ) → Ready s (4 + length body) → Within (s .ports .lengths) e (length body)
+    → (done s e port body .deliveries ≡ put (s .deliveries) (s .bytes) (deliveryOf (s .memory) e port body))
+    × (done s e port body .bytes ≡ s .bytes + length (deliveryOf (s .memory) e port body))
+unfolding done
+added s Ignored port body r w = (sym (put-nothing (s .deliveries) (s .bytes)), sym (add-zero (s .bytes)))
+added s (Dropped i b) port body r w = (sym (put-nothing (s .deliveries) (s .bytes)), sym (add-zero (s .bytes)))
+added s (Delivered i have) port body r w =
+    let l : length (partial (s .memory) i have) ≡ have = length-partial (s .memory) i have (w .0) (omega (arith, w .2)) (r .memory) in
     let sdu : List ℕ = partial (s .memory) i have ++ body in
     (refl, ap (λ (n : ℕ). s .bytes + n) (sym (length-delivery port sdu ∙ ap (λ (n : ℕ). 4 + n) (length-append (partial (s .memory) i have) body ∙ ap (λ (n : ℕ). n + length body) l))))
-added s (Append i have) port body r w = (sym (put-nothing (s .deliveries) (s .bytes)), sym (add-zero (s .bytes)))
+added s (Appended i have) port body r w = (sym (put-nothing (s .deliveries) (s .bytes)), sym (add-zero (s .bytes)))
 
 -- the room that frames ask for
 unfoldable pub asked : List Xgem → ℕ
@@ -48,14 +48,14 @@ asked (x ∷ rest) = asked rest + (4 + length (x .body))
 
 pub counts-true : (own : PortId) (s : Receiver) (frames : List Xgem) → Ready s (asked frames)
     → (steps own s frames .deliveries ≡ put (s .deliveries) (s .bytes) (deliveriesOf own s frames)) × (steps own s frames .bytes ≡ s .bytes + length (deliveriesOf own s frames))
-unfolding steps deliveriesOf asked taken done
+unfolding steps deliveriesOf asked taken
 counts-true own s [] r = (sym (put-nothing (s .deliveries) (s .bytes)), sym (add-zero (s .bytes)))
 counts-true own s (x ∷ rest) r =
-    join (added s e (x .port) (x .body) now-ready (effect-within (s .ports) own (x .port) (x .last) (length (x .body)) (r .ids)))
+    join (added s e (x .port) (x .body) now-ready (within-taken own s (x .port) (x .last) (x .body) (r .ids)))
     (counts-true own (step own s x) rest (ready-step own s (x .port) (x .last) (x .body) (asked rest) r))
   where
-    e : Effect
-    e = effectOf (s .ports) own (x .port) (x .last) (length (x .body))
+    e : Reassembly
+    e = reassemblyOf (s .ports) own (x .port) (x .last) (length (x .body))
 
     now-ready : Ready s (4 + length (x .body))
     now-ready = ready-less s (asked rest + (4 + length (x .body))) (4 + length (x .body)) r (omega arith)
@@ -66,7 +66,7 @@ counts-true own s (x ∷ rest) r =
     more : List ℕ
     more = deliveriesOf own (step own s x) rest
 
-    join : (deliveriesAfter (s .deliveries) (s .bytes) (s .memory) e (x .port) (x .body) ≡ put (s .deliveries) (s .bytes) one) × (bytesAfter (s .bytes) e (length (x .body)) ≡ s .bytes + length one)
+    join : (step own s x .deliveries ≡ put (s .deliveries) (s .bytes) one) × (step own s x .bytes ≡ s .bytes + length one)
         → (steps own (step own s x) rest .deliveries ≡ put (step own s x .deliveries) (step own s x .bytes) more) × (steps own (step own s x) rest .bytes ≡ step own s x .bytes + length more)
         → (steps own (step own s x) rest .deliveries ≡ put (s .deliveries) (s .bytes) (one ++ more)) × (steps own (step own s x) rest .bytes ≡ s .bytes + length (one ++ more))
     join (d, b) (ds, bs) = (

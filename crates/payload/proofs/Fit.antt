@@ -13,16 +13,13 @@ use Rattle.ports.specs.declared.Ports.{Ports}
 use Rattle.ports.specs.Limits.{slots, addedPorts, slotBytes}
 use Rattle.payload.specs.declared.walk.Received.{Received}
 use Rattle.payload.specs.declared.walk.Delineation.the-variants.{Unfit}
-use Rattle.payload.specs.Memory.{Receiver}
+use Rattle.payload.specs.Memory.{receiverOf}
 use Rattle.payload.specs.Bounds.{Ready, total}
 use Rattle.payload.specs.Walk.{Walked, memoryBytes, allWithin, fit, walkOf, receiveOf}
 use Rattle.payload.proofs.Lengths.{each-within, total-le}
 
 abbrev pub walked : List ℕ → List ℕ → Received → Walked
-walked memory deliveries r = record { receiver = record { ports = r .ports; bytes = r .bytes; memory = memory; deliveries = deliveries }; delineation = r .delineation }
-
-abbrev pub receiver : Ports → ℕ → List ℕ → List ℕ → Receiver
-receiver p bytes memory deliveries = record { ports = p; bytes = bytes; memory = memory; deliveries = deliveries }
+walked memory deliveries r = record { receiver = receiverOf (r .ports) (r .bytes) memory deliveries; delineation = r .delineation }
 
 module _ (p : Ports) (own : PortId) (memory deliveries : List ℕ) (place : ℕ) (payload : List ℕ) where
   pub refused : (r : Received) → r ≡ record { ports = p; bytes = 0; delineation = Unfit } → fit p memory deliveries payload ≡ false
@@ -41,10 +38,10 @@ module _ (p : Ports) (own : PortId) (memory deliveries : List ℕ) (place : ℕ)
       short-deliveries h = rw (lengths, le-leb memoryBytes (length memory) room, lt-leb (length payload + memoryBytes) (length deliveries) h)
 
       module _ (space : length payload + memoryBytes ≤ length deliveries) where
-        pub accepted : (w : Walked) → w ≡ walkOf own (receiver p 0 memory deliveries) place payload → w ≡ receiveOf p own memory deliveries place payload
+        pub accepted : (w : Walked) → w ≡ walkOf own (receiverOf p 0 memory deliveries) place payload → w ≡ receiveOf p own memory deliveries place payload
         accepted w e = rw (lengths, le-leb memoryBytes (length memory) room, le-leb (length payload + memoryBytes) (length deliveries) space) e
 
-        pub ready : length (p .ids) ≡ addedPorts → length (p .lengths) ≡ slots → Ready (receiver p 0 memory deliveries) (length payload)
+        pub ready : length (p .ids) ≡ addedPorts → length (p .lengths) ≡ slots → Ready (receiverOf p 0 memory deliveries) (length payload)
         ready i c =
             record {
               ids = i;

@@ -9,40 +9,33 @@ use lib.Dec.{eqb, leb}
 use lib.ListN.{length, take, drop}
 use Rattle.ids.specs.declared.PortId.{PortId}
 use Rattle.hec.specs.Reads.{reading}
-use Rattle.framing.specs.declared.xgem.XgemHeader.{XgemHeader}
-use Rattle.framing.specs.Octets.{value}
-use Rattle.framing.specs.Layouts.{xgemOf, payloadSize}
-use Rattle.framing.specs.Reads.{Found, taken as taken-fields, short, readXgem}
+use Rattle.xgem.specs.declared.frame.XgemHeader.{XgemHeader}
+use Rattle.octets.specs.Octets.{value}
+use Rattle.xgem.specs.Layouts.{xgemOf, payloadSize}
+use Rattle.xgem.specs.Reads.{Found, taken as taken-fields, short, readXgem}
 use Rattle.ids.specs.declared.Place.{Place}
 use Rattle.ids.specs.declared.Place.the-variants.{Nowhere}
 use Rattle.ports.specs.declared.Ports.{Ports}
-use Rattle.fragments.specs.declared.Effect.{Effect}
-use Rattle.fragments.specs.declared.Effect.the-variants.{Nothing}
-use Rattle.fragments.specs.Fragments.{slotIn, slotOf, atPlace, effectOf}
+use Rattle.fragments.specs.declared.Reassembly.the-variants.{Ignored}
+use Rattle.fragments.specs.Fragments.{slotIn, slotOf, atPlace, reassemblyOf}
 use Rattle.payload.specs.declared.frames.Next.the-variants.{Frame}
 use Rattle.payload.specs.Frames.{ahead, nextOf}
-use Rattle.payload.specs.Memory.{Receiver, after, taken, done, memoryAfter, deliveriesAfter, bytesAfter}
+use Rattle.payload.specs.Memory.{Receiver, taken}
 use Rattle.payload.specs.Walk.{walkOf}
 use Rattle.payload.specs.Alike.{Alike, equal, past}
-use Rattle.payload.proofs.Steps.{ids-after}
+use Rattle.payload.proofs.Steps.{done-ignored, taken-by, ids-taken}
 use Rattle.payload.proofs.Walks.{walk-next}
 
 -- a frame whose port has no slot does nothing
-no-effect : (p : Ports) (own port : PortId) (last : Bool) (n : ℕ) → slotOf p own port ≡ Nowhere → effectOf p own port last n ≡ Nothing
-no-effect p own port last n h = ap (λ (q : Place). cond (eqb n 0) Nothing (atPlace p last n q)) h ∙ go (eqb n 0)
+no-effect : (p : Ports) (own port : PortId) (last : Bool) (n : ℕ) → slotOf p own port ≡ Nowhere → reassemblyOf p own port last n ≡ Ignored
+no-effect p own port last n h = ap (λ (q : Place). cond (eqb n 0) Ignored (atPlace (p .lengths) (p .waiting) last n q)) h ∙ go (eqb n 0)
   where
-    go : (b : Bool) → cond b Nothing Nothing ≡ Nothing
+    go : (b : Bool) → cond b Ignored Ignored ≡ Ignored
     go true = refl
     go false = refl
 
 foreign : (own : PortId) (s : Receiver) (port : PortId) (last : Bool) (body : List ℕ) → slotOf (s .ports) own port ≡ Nowhere → taken own s port last body ≡ s
-unfolding taken done memoryAfter deliveriesAfter bytesAfter
-foreign own s port last body h = ap (λ (e : Effect). done s e port body) (no-effect (s .ports) own port last (length body) h)
-
--- no frame changes which ports are ours
-same-ids : (own : PortId) (s : Receiver) (port : PortId) (last : Bool) (body : List ℕ) → taken own s port last body .ports .ids ≡ s .ports .ids
-unfolding taken done
-same-ids own s port last body = ids-after (s .ports) (effectOf (s .ports) own port last (length body)) (length body)
+foreign own s port last body h = sym (taken-by s port body own last _ _ s refl (no-effect (s .ports) own port last (length body) h) (done-ignored s port body))
 
 -- a header stands in the first eight bytes
 next-same : (s t : List ℕ) → take 8 s ≡ take 8 t → length s ≡ length t → nextOf s ≡ nextOf t
@@ -61,7 +54,7 @@ isolated equal place s i = refl
 isolated {own} {ids} (past {s = a} {t = b} x e t l d r) place s i =
     let s′ : Receiver = taken own s (x .port) (x .last) (take (x .pli) (drop 8 a)) in
     walk-next own s place a x e
-    ∙ isolated r (place + (8 + payloadSize (x .pli))) s′ (same-ids own s (x .port) (x .last) (take (x .pli) (drop 8 a)) ∙ i)
+    ∙ isolated r (place + (8 + payloadSize (x .pli))) s′ (ids-taken own s (x .port) (x .last) (take (x .pli) (drop 8 a)) ∙ i)
     ∙ ap (λ (z : Receiver). walkOf own z (place + (8 + payloadSize (x .pli))) (drop (8 + payloadSize (x .pli)) b))
     (same-taken own s (x .port) (x .last) (take (x .pli) (drop 8 a)) (take (x .pli) (drop 8 b)) (rw i d))
     ∙ sym (walk-next own s place b x (sym (next-same a b t l) ∙ e))

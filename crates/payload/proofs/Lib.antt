@@ -1,4 +1,5 @@
 pub mod Put
+pub mod Slots
 pub mod Lengths
 pub mod Steps
 pub mod Reading

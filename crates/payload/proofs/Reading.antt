@@ -10,11 +10,11 @@ use lib.Dec.{leb}
 use lib.ListN.{length, take}
 use Rattle.hec.specs.Reads.{Reading, word, unreadable as unreadable-word, Reads, reading}
 use Rattle.hec.proofs.Nearest.{is-reading}
-use Rattle.framing.specs.declared.xgem.XgemHeader.{XgemHeader}
-use Rattle.framing.specs.Octets.{value}
-use Rattle.framing.specs.Layouts.{xgemOf, payloadSize}
-use Rattle.framing.specs.Reads.{Found, fields, unreadable, short, taken, readXgem}
-use Rattle.framing.proofs.Steps.{read-short, read-found}
+use Rattle.xgem.specs.declared.frame.XgemHeader.{XgemHeader}
+use Rattle.octets.specs.Octets.{value}
+use Rattle.xgem.specs.Layouts.{xgemOf, payloadSize}
+use Rattle.xgem.specs.Reads.{Found, fields, unreadable, short, taken, readXgem}
+use Rattle.xgem.proofs.Steps.{read-short, read-found}
 use Rattle.payload.specs.declared.frames.Next.the-variants.{Done, Lost, Frame}
 use Rattle.payload.specs.Frames.{ahead, nextOf}
 

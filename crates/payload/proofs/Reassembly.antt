@@ -4,7 +4,7 @@
 use mathlib.Core.Path.{_≡_, refl, sym, ap, ap₂, _∙_, subst}
 use mathlib.Core.Bool.{Bool, true, false, cond, _&&_}
 use mathlib.Core.List.{List, [], _∷_, _++_, append-assoc}
-use Prim.Native.Nat.{ℕ, zero, suc, _+_, _-_, _*_, _^_, _≤_, _<_}
+use Prim.Native.Nat.{ℕ, zero, suc, _+_, _-_, _^_, _≤_, _<_}
 use native.Mathlib.Omega.{arith}
 use borrow.Author.Tests.{ne-eqb, le-leb, le-ltb, lt-ltb}
 use lib.Dec.{eqb, ltb}
@@ -13,29 +13,27 @@ use lib.Seq.{drop-at, getD-set-same}
 use Rattle.ids.specs.declared.PortId.{PortId}
 use Rattle.bch.specs.Code.{distance}
 use Rattle.hec.proofs.Words.{undamaged}
-use Rattle.framing.specs.declared.xgem.XgemHeader.{XgemHeader}
-use Rattle.framing.specs.Octets.{value, octets}
-use Rattle.framing.specs.Layouts.{xgemFits, xgemWord, payloadSize}
-use Rattle.framing.specs.Reads.{Found, fields, readXgem}
-use Rattle.framing.specs.Writes.{carrying, padding, xgemFrame}
-use Rattle.framing.proofs.Numbers.{octets-length, value-octets}
-use Rattle.framing.proofs.Layouts.{xgem-true}
-use Rattle.framing.proofs.Frames.{frame-length}
-use Rattle.framing.proofs.RoundTrips.{frame-mended, octets-bytes}
+use Rattle.xgem.specs.declared.frame.XgemHeader.{XgemHeader}
+use Rattle.octets.specs.Octets.{value, octets}
+use Rattle.xgem.specs.Layouts.{xgemFits, xgemWord, payloadSize}
+use Rattle.xgem.specs.Reads.{Found, fields, readXgem}
+use Rattle.xgem.specs.Writes.{carrying, padding, xgemFrame}
+use Rattle.xgem.proofs.Numbers.{octets-length, value-octets}
+use Rattle.xgem.proofs.Layouts.{xgem-true}
+use Rattle.xgem.proofs.Frames.{frame-length}
+use Rattle.xgem.proofs.RoundTrips.{frame-mended, octets-bytes}
 use Rattle.ids.specs.declared.Place.{Place}
 use Rattle.ids.specs.declared.Place.the-variants.{At}
-use Rattle.ports.specs.Limits.{slots, slotBytes}
-use Rattle.fragments.specs.declared.Effect.{Effect}
-use Rattle.fragments.specs.declared.Effect.the-variants.{Nothing, Discard, Deliver, Append}
-use Rattle.fragments.specs.Fragments.{slotOf, atSlot, atPlace, effectOf}
+use Rattle.ports.specs.Limits.{slots, sduBytes}
+use Rattle.fragments.specs.declared.Reassembly.the-variants.{Delivered, Appended}
+use Rattle.fragments.specs.Fragments.{slotOf, atSlot, atPlace, reassemblyOf}
 use Rattle.payload.specs.declared.frames.Next.the-variants.{Frame}
 use Rattle.payload.specs.Frames.{nextOf}
-use Rattle.payload.specs.Memory.{Receiver, after, put, delivery, partial, memoryAfter, deliveriesAfter, bytesAfter, done, taken}
+use Rattle.payload.specs.Memory.{Receiver, put, delivery, partial, extended, done, taken}
 use Rattle.payload.specs.Bounds.{Ready}
 use Rattle.payload.specs.Walk.{memoryBytes, walkOf}
 use Rattle.payload.specs.Deliveries.{joined, fragmentHeader, written, sent}
-use Rattle.payload.proofs.Put.{length-put}
-use Rattle.payload.proofs.Steps.{slot-holds}
+use Rattle.payload.proofs.Slots.{length-extended, slot-holds}
 use Rattle.payload.proofs.Reading.{frame-ahead}
 use Rattle.payload.proofs.Walks.{walk-next}
 
@@ -45,13 +43,13 @@ pub record Fits (x : XgemHeader) : Type 0 where
   pub port : x .port .0 < 2 ^ 16
   pub options : x .options < 2 ^ 18
 
-header-fits : (x : XgemHeader) → Fits x → (last : Bool) (f : List ℕ) → length f ≤ slotBytes → xgemFits (carrying (fragmentHeader x last) f) ≡ true
+header-fits : (x : XgemHeader) → Fits x → (last : Bool) (f : List ℕ) → length f ≤ sduBytes → xgemFits (carrying (fragmentHeader x last) f) ≡ true
 header-fits x h last f l =
     ap₂ _&&_ (lt-ltb (length f) (2 ^ 14) (omega arith))
     (ap₂ _&&_ (lt-ltb (x .key) (2 ^ 2) (h .key)) (ap₂ _&&_ (lt-ltb (x .port .0) (2 ^ 16) (h .port)) (lt-ltb (x .options) (2 ^ 18) (h .options))))
 
 -- what the writer laid out is found again: the frame, its bytes, and what stands behind it
-module _ (x : XgemHeader) (h : Fits x) (last : Bool) (f rest : List ℕ) (l : length f ≤ slotBytes) where
+module _ (x : XgemHeader) (h : Fits x) (last : Bool) (f rest : List ℕ) (l : length f ≤ sduBytes) where
   abbrev c : XgemHeader
   c = carrying (fragmentHeader x last) f
 
@@ -89,17 +87,16 @@ pub record Holding (own : PortId) (s : Receiver) (port : PortId) (i : ℕ) (acc 
   pub memory : memoryBytes ≤ length (s .memory)
 
 -- what a fragment does there
-module _ (own : PortId) (s : Receiver) (port : PortId) (i : ℕ) (acc : List ℕ) (held : Holding own s port i acc) (f : List ℕ) (some : 0 < length f) (room : length acc + length f ≤ slotBytes) where
-  effect : (last : Bool) → effectOf (s .ports) own port last (length f) ≡ cond last (Deliver i (length acc)) (Append i (length acc))
+module _ (own : PortId) (s : Receiver) (port : PortId) (i : ℕ) (acc : List ℕ) (held : Holding own s port i acc) (f : List ℕ) (some : 0 < length f) (room : length acc + length f ≤ sduBytes) where
+  effect : (last : Bool) → reassemblyOf (s .ports) own port last (length f) ≡ cond last (Delivered i (length acc)) (Appended i (length acc))
   effect last =
       rw (ne-eqb (length f) 0 (λ e. omega arith))
-      (ap (atPlace (s .ports) last (length f)) (held .slot)
+      (ap (atPlace (s .ports .lengths) (s .ports .waiting) last (length f)) (held .slot)
       ∙ ap₂ (λ (w : Bool) (n : ℕ). atSlot i w n last (length f)) (held .clear) (held .have)
-      ∙ rw (le-ltb slotBytes (length acc + length f) room))
+      ∙ rw (le-ltb sduBytes (length acc + length f) room))
 
-  grown : memoryBytes ≤ length (memoryAfter (s .memory) (Append i (length acc)) f)
-  unfolding memoryAfter
-  grown = subst (λ (n : ℕ). memoryBytes ≤ n) (sym (length-put (s .memory) (i * slotBytes + length acc) f (omega (arith, held .small, held .memory)))) (held .memory)
+  grown : memoryBytes ≤ length (extended (s .memory) i (length acc) f)
+  grown = subst (λ (n : ℕ). memoryBytes ≤ n) (sym (length-extended (s .memory) i (length acc) f (held .small) room (held .memory))) (held .memory)
 
   kept : Holding own (taken own s port false f) port i (acc ++ f)
   unfolding taken done
@@ -111,19 +108,19 @@ module _ (own : PortId) (s : Receiver) (port : PortId) (i : ℕ) (acc : List ℕ
         clear = held .clear;
         have = getD-set-same (s .ports .lengths) i (length acc + length f) 0 (omega (arith, held .small, held .count)) ∙ sym (length-append acc f);
         holds =
-            ap (partial (memoryAfter (s .memory) (Append i (length acc)) f) i) (length-append acc f)
+            ap (partial (extended (s .memory) i (length acc) f) i) (length-append acc f)
             ∙ slot-holds (s .memory) i (length acc) f (held .small) room (held .memory) ∙ ap (λ (l : List ℕ). l ++ f) (held .holds);
         memory = grown;
       })
 
   -- nothing of the deliveries changes
   quiet : (taken own s port false f .deliveries ≡ s .deliveries) × (taken own s port false f .bytes ≡ s .bytes)
-  unfolding taken done deliveriesAfter bytesAfter
+  unfolding taken done
   quiet = rw (effect false) (refl, refl)
 
   -- and the last one delivers the whole
   delivered : (taken own s port true f .deliveries ≡ put (s .deliveries) (s .bytes) (delivery port (acc ++ f))) × (taken own s port true f .bytes ≡ s .bytes + (4 + length (acc ++ f)))
-  unfolding taken done deliveriesAfter bytesAfter
+  unfolding taken done
   delivered =
       rw (effect true)
       (ap (λ (l : List ℕ). put (s .deliveries) (s .bytes) (delivery port (l ++ f))) (held .holds), ap (λ (n : ℕ). s .bytes + (4 + n)) (sym (length-append acc f)))
@@ -142,7 +139,7 @@ pub record Arrived (own : PortId) (s : Receiver) (port : PortId) (sdu : List ℕ
   pub bytes : after .bytes ≡ s .bytes + (4 + length sdu)
 
 pub reassembled : (own : PortId) (s : Receiver) (x : XgemHeader) (i : ℕ) (acc : List ℕ) (fragments : List (List ℕ)) (last rest : List ℕ) (place : ℕ)
-    → Fits x → Holding own s (x .port) i acc → AllSome fragments last → length acc + length (joined fragments last) ≤ slotBytes
+    → Fits x → Holding own s (x .port) i acc → AllSome fragments last → length acc + length (joined fragments last) ≤ sduBytes
     → Arrived own s (x .port) (acc ++ joined fragments last) place (sent x fragments last rest) rest
 reassembled own s x i acc [] last rest place fits held some room =
     let d = delivered own s (x .port) i acc held last some room in
@@ -155,7 +152,7 @@ reassembled own s x i acc [] last rest place fits held some room =
     }
 reassembled own s x i acc (f ∷ fragments) last rest place fits held some room =
     let l : length (f ++ joined fragments last) ≡ length f + length (joined fragments last) = length-append f (joined fragments last) in
-    let m : length acc + length f ≤ slotBytes = omega arith in
+    let m : length acc + length f ≤ sduBytes = omega arith in
     let q = quiet own s (x .port) i acc held f (some .0) m in
     let s′ : Receiver = taken own s (x .port) false f in
     let r = reassembled own s′ x i (acc ++ f) fragments last rest (place + (8 + payloadSize (length f))) fits (kept own s (x .port) i acc held f (some .0) m) (some .1) (omega (arith, length-append acc f)) in

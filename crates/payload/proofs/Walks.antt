@@ -11,10 +11,10 @@ use lib.Dec.{leb}
 use lib.ListN.{length, take, drop, length-drop}
 use lib.Seq.{take-all, drop-drop, length-take-le}
 use Rattle.ids.specs.declared.PortId.{PortId}
-use Rattle.framing.specs.declared.xgem.XgemHeader.{XgemHeader}
-use Rattle.framing.specs.Layouts.{payloadSize}
-use Rattle.framing.specs.Reads.{Found, fields, unreadable, short, readXgem}
-use Rattle.framing.proofs.Frames.{covers}
+use Rattle.xgem.specs.declared.frame.XgemHeader.{XgemHeader}
+use Rattle.xgem.specs.Layouts.{payloadSize}
+use Rattle.xgem.specs.Reads.{Found, fields, unreadable, short, readXgem}
+use Rattle.xgem.proofs.Frames.{covers}
 use Rattle.payload.specs.declared.frames.Next.{Next}
 use Rattle.payload.specs.declared.frames.Next.the-variants.{Done, Lost, Frame}
 use Rattle.payload.specs.declared.walk.Delineation.the-variants.{Kept, Lost as LostDelineation}

@@ -5,24 +5,24 @@ use mathlib.Core.List.{List, [], _∷_, _++_}
 use Prim.Native.Nat.{ℕ, _+_}
 use lib.ListN.{length}
 use Rattle.ids.specs.declared.PortId.{PortId}
-use Rattle.framing.specs.declared.xgem.XgemHeader.{XgemHeader}
-use Rattle.framing.specs.Writes.{carrying, xgemFrame}
-use Rattle.fragments.specs.declared.Effect.{Effect}
-use Rattle.fragments.specs.declared.Effect.the-variants.{Nothing, Discard, Deliver, Append}
-use Rattle.fragments.specs.Fragments.{effectOf}
+use Rattle.xgem.specs.declared.frame.XgemHeader.{XgemHeader}
+use Rattle.xgem.specs.Writes.{carrying, xgemFrame}
+use Rattle.fragments.specs.declared.Reassembly.{Reassembly}
+use Rattle.fragments.specs.declared.Reassembly.the-variants.{Ignored, Dropped, Delivered, Appended}
+use Rattle.fragments.specs.Fragments.{reassemblyOf}
 use Rattle.payload.specs.Frames.{Xgem}
 use Rattle.payload.specs.Memory.{Receiver, delivery, partial, step}
 
-abbrev pub deliveryOf : List ℕ → Effect → PortId → List ℕ → List ℕ
-deliveryOf memory Nothing port body = []
-deliveryOf memory (Discard slot waits) port body = []
-deliveryOf memory (Deliver slot have) port body = delivery port (partial memory slot have ++ body)
-deliveryOf memory (Append slot have) port body = []
+abbrev pub deliveryOf : List ℕ → Reassembly → PortId → List ℕ → List ℕ
+deliveryOf memory Ignored port body = []
+deliveryOf memory (Dropped slot waits) port body = []
+deliveryOf memory (Delivered slot have) port body = delivery port (partial memory slot have ++ body)
+deliveryOf memory (Appended slot have) port body = []
 
 unfoldable pub deliveriesOf : PortId → Receiver → List Xgem → List ℕ
 deliveriesOf own s [] = []
 deliveriesOf own s (x ∷ rest) =
-    deliveryOf (s .memory) (effectOf (s .ports) own (x .port) (x .last) (length (x .body))) (x .port) (x .body) ++ deliveriesOf own (step own s x) rest
+    deliveryOf (s .memory) (reassemblyOf (s .ports) own (x .port) (x .last) (length (x .body))) (x .port) (x .body) ++ deliveriesOf own (step own s x) rest
 
 -- an SDU in fragments, the last of which is given apart
 abbrev pub joined : List (List ℕ) → List ℕ → List ℕ

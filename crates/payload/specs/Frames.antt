@@ -6,9 +6,9 @@ use Prim.Native.Nat.{ℕ, zero, suc, _+_}
 use lib.Dec.{leb}
 use lib.ListN.{length, take, drop}
 use Rattle.ids.specs.declared.PortId.{PortId}
-use Rattle.framing.specs.declared.xgem.XgemHeader.{XgemHeader}
-use Rattle.framing.specs.Layouts.{payloadSize}
-use Rattle.framing.specs.Reads.{Found, fields, unreadable, short, readXgem}
+use Rattle.xgem.specs.declared.frame.XgemHeader.{XgemHeader}
+use Rattle.xgem.specs.Layouts.{payloadSize}
+use Rattle.xgem.specs.Reads.{Found, fields, unreadable, short, readXgem}
 use Rattle.payload.specs.declared.frames.Next.{Next}
 use Rattle.payload.specs.declared.frames.Next.the-variants.{Done, Lost, Frame}
 
@@ -21,12 +21,16 @@ pub record Xgem : Type 0 where
   pub place : ℕ
   pub body : List ℕ
 
+-- an XGEM header has eight octets
+abbrev pub xgemHeaderBytes : ℕ
+xgemHeaderBytes = 8
+
 -- "0 left: end. 4 left: skipped. Otherwise a header, then [its payload]. An unreadable header, or a payload longer than what
--- is left, is answer 6": a frame has whole words, so fewer than eight bytes are none or four
+-- is left, is answer 6": a frame has whole words, so fewer bytes than a header has are none or four
 abbrev pub ahead : Found XgemHeader → ℕ → Next
 ahead short left = Done
 ahead unreadable left = Lost
-ahead (fields x) left = cond (leb (8 + payloadSize (x .pli)) left) (Frame x) Lost
+ahead (fields x) left = cond (leb (xgemHeaderBytes + payloadSize (x .pli)) left) (Frame x) Lost
 
 abbrev pub nextOf : List ℕ → Next
 nextOf s = ahead (readXgem s) (length s)
@@ -43,13 +47,13 @@ with x rest = record { frames = x ∷ rest .frames; lost = rest .lost }
 
 -- the frame of a header at the start of s, which stands at a place
 abbrev pub frameOf : XgemHeader → ℕ → List ℕ → Xgem
-frameOf x place s = record { port = x .port; last = x .last; key = x .key; place = place; body = take (x .pli) (drop 8 s) }
+frameOf x place s = record { port = x .port; last = x .last; key = x .key; place = place; body = take (x .pli) (drop xgemHeaderBytes s) }
 
 -- the frames from there on; `rest` parses what stands behind one
 unfoldable pub onward : Next → ℕ → List ℕ → (ℕ → List ℕ → Parsed) → Parsed
 onward Done place s rest = ended false
 onward Lost place s rest = ended true
-onward (Frame x) place s rest = with (frameOf x place s) (rest (place + (8 + payloadSize (x .pli))) (drop (8 + payloadSize (x .pli)) s))
+onward (Frame x) place s rest = with (frameOf x place s) (rest (place + (xgemHeaderBytes + payloadSize (x .pli))) (drop (xgemHeaderBytes + payloadSize (x .pli)) s))
 
 -- with a count of frames that is large enough: the length
 unfoldable pub parseIn : ℕ → ℕ → List ℕ → Parsed

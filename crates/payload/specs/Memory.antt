@@ -1,17 +1,17 @@
 -- What one XGEM frame does to the ports, the port memory and the deliveries.
 -- Assumes nothing.
-use mathlib.Core.Bool.{Bool, false}
+use mathlib.Core.Bool.{Bool}
 use mathlib.Core.List.{List, _++_}
 use Prim.Native.Nat.{ℕ, _+_, _*_}
-use lib.ListN.{length, take, drop, set}
+use lib.ListN.{length, take, drop}
 use Rattle.ids.specs.declared.PortId.{PortId}
-use Rattle.framing.specs.Octets.{octets}
+use Rattle.octets.specs.Octets.{octets}
 use Rattle.ports.specs.Limits.{slotBytes}
-use Rattle.ports.specs.Ports.{dropOne}
+use Rattle.ports.specs.Ports.{dropOne, appended, delivered}
 use Rattle.ports.specs.declared.Ports.{Ports}
-use Rattle.fragments.specs.declared.Effect.{Effect}
-use Rattle.fragments.specs.declared.Effect.the-variants.{Nothing, Discard, Deliver, Append}
-use Rattle.fragments.specs.Fragments.{effectOf}
+use Rattle.fragments.specs.declared.Reassembly.{Reassembly}
+use Rattle.fragments.specs.declared.Reassembly.the-variants.{Ignored, Dropped, Delivered, Appended}
+use Rattle.fragments.specs.Fragments.{reassemblyOf}
 use Rattle.payload.specs.Frames.{Xgem}
 
 -- all that a frame can change
@@ -22,12 +22,8 @@ pub record Receiver : Type 0 where
   pub memory : List ℕ
   pub deliveries : List ℕ
 
--- the ports after an effect of n bytes
-abbrev pub after : Ports → Effect → ℕ → Ports
-after p Nothing n = p
-after p (Discard slot waits) n = dropOne p slot waits
-after p (Deliver slot have) n = dropOne p slot false
-after p (Append slot have) n = record { ids = p .ids; lengths = set (p .lengths) slot (have + n); waiting = p .waiting }
+abbrev pub receiverOf : Ports → ℕ → List ℕ → List ℕ → Receiver
+receiverOf ports bytes memory deliveries = record { ports = ports; bytes = bytes; memory = memory; deliveries = deliveries }
 
 -- a list with s from a place on
 unfoldable pub put : List ℕ → ℕ → List ℕ → List ℕ
@@ -41,37 +37,27 @@ delivery port sdu = octets 2 (port .0) ++ (octets 2 (length sdu) ++ sdu)
 unfoldable pub partial : List ℕ → ℕ → ℕ → List ℕ
 partial memory slot have = take have (drop (slot * slotBytes) memory)
 
--- "LF 0 adds to the port's slot"; "A last or only fragment isn't written to the slot. Dropping writes nothing"
-unfoldable pub memoryAfter : List ℕ → Effect → List ℕ → List ℕ
-memoryAfter memory Nothing body = memory
-memoryAfter memory (Discard slot waits) body = memory
-memoryAfter memory (Deliver slot have) body = memory
-memoryAfter memory (Append slot have) body = put memory (slot * slotBytes + have) body
+-- the memory with more bytes behind those
+unfoldable pub extended : List ℕ → ℕ → ℕ → List ℕ → List ℕ
+extended memory slot have body = put memory (slot * slotBytes + have) body
 
-unfoldable pub deliveriesAfter : List ℕ → ℕ → List ℕ → Effect → PortId → List ℕ → List ℕ
-deliveriesAfter deliveries bytes memory Nothing port body = deliveries
-deliveriesAfter deliveries bytes memory (Discard slot waits) port body = deliveries
-deliveriesAfter deliveries bytes memory (Deliver slot have) port body = put deliveries bytes (delivery port (partial memory slot have ++ body))
-deliveriesAfter deliveries bytes memory (Append slot have) port body = deliveries
-
-unfoldable pub bytesAfter : ℕ → Effect → ℕ → ℕ
-bytesAfter bytes Nothing n = bytes
-bytesAfter bytes (Discard slot waits) n = bytes
-bytesAfter bytes (Deliver slot have) n = bytes + (4 + (have + n))
-bytesAfter bytes (Append slot have) n = bytes
-
-unfoldable pub done : Receiver → Effect → PortId → List ℕ → Receiver
-done s e port body =
-    record {
-      ports = after (s .ports) e (length body);
-      bytes = bytesAfter (s .bytes) e (length body);
-      memory = memoryAfter (s .memory) e body;
-      deliveries = deliveriesAfter (s .deliveries) (s .bytes) (s .memory) e port body;
-    }
+-- what a fragment leaves, by what it does
+unfoldable pub done : Receiver → Reassembly → PortId → List ℕ → Receiver
+-- "PLI 0, Port-ID 65,535 and foreign ports have no effect"
+done s Ignored port body = s
+-- "drops the partial"; "Dropping writes nothing"
+done s (Dropped slot waits) port body = receiverOf (dropOne (s .ports) slot waits) (s .bytes) (s .memory) (s .deliveries)
+-- "LF 1 delivers"; "A last or only fragment isn't written to the slot"
+done s (Delivered slot have) port body =
+    receiverOf (delivered (s .ports) slot) (s .bytes + (4 + (have + length body))) (s .memory)
+    (put (s .deliveries) (s .bytes) (delivery port (partial (s .memory) slot have ++ body)))
+-- "LF 0 adds to the port's slot"
+done s (Appended slot have) port body =
+    receiverOf (appended (s .ports) slot (have + length body)) (s .bytes) (extended (s .memory) slot have body) (s .deliveries)
 
 -- a fragment for a port, where `own` is the management port
 unfoldable pub taken : PortId → Receiver → PortId → Bool → List ℕ → Receiver
-taken own s port last body = done s (effectOf (s .ports) own port last (length body)) port body
+taken own s port last body = done s (reassemblyOf (s .ports) own port last (length body)) port body
 
 -- one XGEM frame
 abbrev pub step : PortId → Receiver → Xgem → Receiver

@@ -12,7 +12,7 @@ use Rattle.ports.specs.declared.Ports.{Ports}
 use Rattle.payload.specs.declared.walk.Delineation.{Delineation}
 use Rattle.payload.specs.declared.walk.Delineation.the-variants.{Kept, Lost, Unfit}
 use Rattle.payload.specs.Frames.{Xgem, Parsed, parse}
-use Rattle.payload.specs.Memory.{Receiver, step}
+use Rattle.payload.specs.Memory.{Receiver, receiverOf, step}
 
 unfoldable pub steps : PortId → Receiver → List Xgem → Receiver
 steps own s [] = s
@@ -21,7 +21,7 @@ steps own s (x ∷ rest) = steps own (step own s x) rest
 -- answer 6: "earlier deliveries stand, all partials are dropped, every port waits"
 unfoldable pub endedBy : Bool → Receiver → Receiver
 endedBy false s = s
-endedBy true s = record { ports = dropAll (s .ports); bytes = s .bytes; memory = s .memory; deliveries = s .deliveries }
+endedBy true s = receiverOf (dropAll (s .ports)) (s .bytes) (s .memory) (s .deliveries)
 
 -- what the walk leaves
 pub record Walked : Type 0 where
@@ -56,5 +56,5 @@ fit p memory deliveries payload =
 abbrev pub receiveOf : Ports → PortId → List ℕ → List ℕ → ℕ → List ℕ → Walked
 receiveOf p own memory deliveries place payload =
     cond (fit p memory deliveries payload)
-    (walkOf own (record { ports = p; bytes = 0; memory = memory; deliveries = deliveries }) place payload)
-    (record { receiver = record { ports = p; bytes = 0; memory = memory; deliveries = deliveries }; delineation = Unfit })
+    (walkOf own (receiverOf p 0 memory deliveries) place payload)
+    (record { receiver = receiverOf p 0 memory deliveries; delineation = Unfit })

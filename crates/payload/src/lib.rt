@@ -4,6 +4,7 @@ mod memory;
 mod walk;
 
 pub use frames::Next;
+pub use frames::XGEM_HEADER_BYTES;
 pub use walk::Delineation;
 pub use walk::MEMORY_BYTES;
 pub use walk::Received;

@@ -2,18 +2,19 @@
 ghost use mathlib.Core.Path.{_≡_};
 ghost use lib.ListN.{length};
 ghost use Rattle.ports.specs.Ports.{dropAll};
+ghost use Rattle.payload.specs.Memory.{receiverOf};
 ghost use Rattle.payload.specs.Bounds.{Ready};
 ghost use Rattle.payload.specs.Walk.{walkOf, allWithin, receiveOf};
 use super::frames;
 use super::frames::Next;
 use super::memory;
-use framing::xgem;
 use ids::PortId;
 use ports::Ports;
 use ports::SLOT_BYTES;
+use ports::SLOTS;
 
-// The memory of 17 slots.
-pub const MEMORY_BYTES: usize = 34816;
+// The memory of all slots.
+pub const MEMORY_BYTES: usize = SLOTS * SLOT_BYTES;
 
 pub enum Delineation {
     Kept,
@@ -29,11 +30,11 @@ pub struct Received {
     pub delineation: Delineation,
 }
 
-fn all_within(lengths: [u16; 17]) -> bool
+fn all_within(lengths: [u16; SLOTS]) -> bool
     ensures { λ r. ⌜ r ≡ allWithin lengths ⌝ }
 {
     let mut i: usize = 0;
-    while i < 17 {
+    while i < SLOTS {
         if SLOT_BYTES < lengths[i] as usize {
             return false;
         }
@@ -73,16 +74,6 @@ fn kept(ports: Ports, bytes: usize) -> Received
     }
 }
 
-fn together(ids: [PortId; 16], lengths: [u16; 17], waiting: [bool; 17]) -> Ports
-    ensures { λ r. ⌜ r ≡ record { ids = ids; lengths = lengths; waiting = waiting } ⌝ }
-{
-    Ports {
-        ids: ids,
-        lengths: lengths,
-        waiting: waiting,
-    }
-}
-
 fn walk_frames(
     ports: Ports,
     own: PortId,
@@ -91,8 +82,8 @@ fn walk_frames(
     place: usize,
     payload: &[u8],
 ) -> Received
-    requires { ⌜ Ready (record { ports = ports; bytes = 0; memory = now memory; deliveries = now deliveries }) (length (now payload)) ⌝ }
-    ensures { λ r. ⌜ record { receiver = record { ports = r .ports; bytes = r .bytes; memory = now (memory .exit); deliveries = now (deliveries .exit) }; delineation = r .delineation } ≡ walkOf own (record { ports = ports; bytes = 0; memory = now (memory .entry); deliveries = now (deliveries .entry) }) place (now (payload .entry)) ⌝ }
+    requires { ⌜ Ready (receiverOf ports 0 (now memory) (now deliveries)) (length (now payload)) ⌝ }
+    ensures { λ r. ⌜ record { receiver = receiverOf (r .ports) (r .bytes) (now (memory .exit)) (now (deliveries .exit)); delineation = r .delineation } ≡ walkOf own (receiverOf ports 0 (now (memory .entry)) (now (deliveries .entry))) place (now (payload .entry)) ⌝ }
 {
     let ids = ports.ids;
     let mut lengths = ports.lengths;
@@ -103,13 +94,13 @@ fn walk_frames(
         let next = frames::next_frame(&payload[at..]);
         match next {
             Next::Done => {
-                return kept(together(ids, lengths, waiting), bytes);
+                return kept(Ports::of(ids, lengths, waiting), bytes);
             }
             Next::Lost => {
-                return lost(together(ids, lengths, waiting), bytes);
+                return lost(Ports::of(ids, lengths, waiting), bytes);
             }
             Next::Frame(x) => {
-                let body = at + 8;
+                let body = at + frames::XGEM_HEADER_BYTES;
                 let size = xgem::payload_size(x.pli);
                 let end = body + x.pli as usize;
                 let port = x.port;
@@ -140,7 +131,7 @@ pub fn receive(
     place: usize,
     payload: &[u8],
 ) -> Received
-    ensures { λ r. ⌜ record { receiver = record { ports = r .ports; bytes = r .bytes; memory = now (memory .exit); deliveries = now (deliveries .exit) }; delineation = r .delineation } ≡ receiveOf ports own (now (memory .entry)) (now (deliveries .entry)) place (now (payload .entry)) ⌝ }
+    ensures { λ r. ⌜ record { receiver = receiverOf (r .ports) (r .bytes) (now (memory .exit)) (now (deliveries .exit)); delineation = r .delineation } ≡ receiveOf ports own (now (memory .entry)) (now (deliveries .entry)) place (now (payload .entry)) ⌝ }
 {
     let lengths = ports.lengths;
     if !all_within(lengths) {

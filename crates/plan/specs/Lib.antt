@@ -1,1 +1,4 @@
+pub mod Limits
 pub mod Records
+pub mod Plan
+pub mod Laser

@@ -8,6 +8,7 @@ use lib.Dec.{eqb, ltb}
 use Rattle.ids.specs.declared.OnuId.{OnuId}
 use Rattle.ids.specs.declared.AllocId.{AllocId}
 use Rattle.ploam.specs.Layout.{messageOctets, at32, octet, number16, number32, addressOf, typeOf, seqNoOf}
+use Rattle.ploam.specs.Layout.{profile, assignOnuId, rangingTime, deactivateOnuId, disableSerialNumber, requestRegistration, assignAllocId, keyControl, sleepAllow}
 use Rattle.ploam.specs.declared.SerialNumber.{SerialNumber}
 use Rattle.ploam.specs.declared.Adjustment.{Adjustment}
 use Rattle.ploam.specs.declared.Adjustment.the-variants.{Absolute, Add, Subtract}
@@ -52,15 +53,15 @@ allocIn m = record { 0 = number16 m 5 % 16384 }
 -- Table 11-2: the downstream message types
 unfoldable pub contentAs : ℕ → List ℕ → Content
 contentAs type m =
-    cond (eqb type 0x01) Profile
-    (cond (eqb type 0x03) (AssignOnuId (onuIn m) (serialFrom m 7))
-    (cond (eqb type 0x04) (RangingTime (adjustmentOf (octet m 5)) (number32 m 6))
-    (cond (eqb type 0x05) DeactivateOnuId
-    (cond (eqb type 0x06) (DisableSerialNumber (switchOf (octet m 5)) (serialFrom m 6))
-    (cond (eqb type 0x09) RequestRegistration
-    (cond (eqb type 0x0a) (AssignAllocId (allocIn m) (changeOf (octet m 7)))
-    (cond (eqb type 0x0d) KeyControl
-    (cond (eqb type 0x12) SleepAllow
+    cond (eqb type profile) Profile
+    (cond (eqb type assignOnuId) (AssignOnuId (onuIn m) (serialFrom m 7))
+    (cond (eqb type rangingTime) (RangingTime (adjustmentOf (octet m 5)) (number32 m 6))
+    (cond (eqb type deactivateOnuId) DeactivateOnuId
+    (cond (eqb type disableSerialNumber) (DisableSerialNumber (switchOf (octet m 5)) (serialFrom m 6))
+    (cond (eqb type requestRegistration) RequestRegistration
+    (cond (eqb type assignAllocId) (AssignAllocId (allocIn m) (changeOf (octet m 7)))
+    (cond (eqb type keyControl) KeyControl
+    (cond (eqb type sleepAllow) SleepAllow
     (Unknown type)))))))))
 
 abbrev pub contentOf : List ℕ → Content
@@ -68,15 +69,15 @@ contentOf m = contentAs (typeOf m) m
 
 -- the type of what is said
 abbrev pub typeCode : Content → ℕ
-typeCode Profile = 0x01
-typeCode (AssignOnuId onu serial) = 0x03
-typeCode (RangingTime way delay) = 0x04
-typeCode DeactivateOnuId = 0x05
-typeCode (DisableSerialNumber switch serial) = 0x06
-typeCode RequestRegistration = 0x09
-typeCode (AssignAllocId alloc change) = 0x0a
-typeCode KeyControl = 0x0d
-typeCode SleepAllow = 0x12
+typeCode Profile = profile
+typeCode (AssignOnuId onu serial) = assignOnuId
+typeCode (RangingTime way delay) = rangingTime
+typeCode DeactivateOnuId = deactivateOnuId
+typeCode (DisableSerialNumber switch serial) = disableSerialNumber
+typeCode RequestRegistration = requestRegistration
+typeCode (AssignAllocId alloc change) = assignAllocId
+typeCode KeyControl = keyControl
+typeCode SleepAllow = sleepAllow
 typeCode (Unknown type) = type
 
 abbrev pub messageOf : List ℕ → Message

@@ -1,48 +1,55 @@
 // Reading a downstream message. Nothing here says that it is genuine: the integrity check is a call of its own, which
 // costs far more, and is made only for a message that could act.
 ghost use mathlib.Core.Path.{_≡_};
-ghost use Prim.Native.Nat.{_+_, _*_, _≤_};
+ghost use Prim.Native.Nat.{_+_, _≤_};
 ghost use lib.ListN.{length};
-ghost use Rattle.ploam.specs.Layout.{messageOctets, at16, at32, addressOf};
+ghost use Rattle.ploam.specs.Layout.{messageOctets, at16, at32, addressBy};
 ghost use Rattle.ploam.specs.Reading.{serialAt, adjustmentOf, switchOf, changeOf, onuIn, allocIn, contentOf, received};
+use super::ASSIGN_ALLOC_ID;
+use super::ASSIGN_ONU_ID;
 use super::Adjustment;
 use super::AllocChange;
 use super::Content;
+use super::DEACTIVATE_ONU_ID;
+use super::DISABLE_SERIAL_NUMBER;
+use super::KEY_CONTROL;
 use super::MESSAGE_OCTETS;
 use super::Message;
+use super::PROFILE;
+use super::RANGING_TIME;
+use super::REQUEST_REGISTRATION;
 use super::Received;
+use super::SLEEP_ALLOW;
 use super::SerialNumber;
 use super::Switch;
 use ids::AllocId;
 use ids::OnuId;
 
-pub fn join16(a: u8, b: u8) -> u16
-    ensures { λ r. ⌜ r ≡ a * 256 + b ⌝ }
-{
-    a as u16 * 256 + b as u16
-}
+// An ONU-ID in two octets has ten bits; the upper six are ignored.
+pub const ADDRESSES: u16 = 1024;
 
-pub fn join32(a: u16, b: u16) -> u32
-    ensures { λ r. ⌜ r ≡ a * 65536 + b ⌝ }
+// The ONU-ID that two octets of a message name.
+pub fn address(high: u8, low: u8) -> OnuId
+    ensures { λ r. ⌜ r ≡ addressBy high low ⌝ }
 {
-    a as u32 * 65536 + b as u32
+    OnuId(octets::join16(high, low) % ADDRESSES)
 }
 
 fn number16(m: &[u8], i: usize) -> u16
     requires { ⌜ i + 2 ≤ length (now m) ⌝ }
     ensures { λ r. ⌜ r ≡ at16 (now (m .entry)) i ⌝ }
 {
-    join16(m[i], m[i + 1])
+    octets::join16(m[i], m[i + 1])
 }
 
 fn number32(m: &[u8], i: usize) -> u32
     requires { ⌜ i + 4 ≤ length (now m) ⌝ }
     ensures { λ r. ⌜ r ≡ at32 (now (m .entry)) i ⌝ }
 {
-    join32(number16(m, i), number16(m, i + 2))
+    octets::join32(m[i], m[i + 1], m[i + 2], m[i + 3])
 }
 
-fn serial_number(m: &[u8], i: usize) -> SerialNumber
+fn serial_at(m: &[u8], i: usize) -> SerialNumber
     requires { ⌜ i + 8 ≤ length (now m) ⌝ }
     ensures { λ r. ⌜ r ≡ serialAt (now (m .entry)) i ⌝ }
 {
@@ -52,11 +59,11 @@ fn serial_number(m: &[u8], i: usize) -> SerialNumber
     }
 }
 
-fn address(m: &[u8]) -> OnuId
-    requires { ⌜ messageOctets ≤ length (now m) ⌝ }
-    ensures { λ r. ⌜ r ≡ addressOf (now (m .entry)) ⌝ }
+// Eight octets as a message gives a serial number.
+pub fn serial_number(serial: [u8; 8]) -> SerialNumber
+    ensures { λ r. ⌜ r ≡ serialAt serial 0 ⌝ }
 {
-    OnuId(number16(m, 0) % 1024)
+    serial_at(&serial, 0)
 }
 
 fn onu_in(m: &[u8]) -> OnuId
@@ -113,15 +120,15 @@ fn content(m: &[u8]) -> Content
 {
     let kind = m[2];
     match kind {
-        0x01 => Content::Profile,
-        0x03 => Content::AssignOnuId(onu_in(m), serial_number(m, 6)),
-        0x04 => Content::RangingTime(adjustment(m[4]), number32(m, 5)),
-        0x05 => Content::DeactivateOnuId,
-        0x06 => Content::DisableSerialNumber(switch(m[4]), serial_number(m, 5)),
-        0x09 => Content::RequestRegistration,
-        0x0a => Content::AssignAllocId(alloc_in(m), change(m[6])),
-        0x0d => Content::KeyControl,
-        0x12 => Content::SleepAllow,
+        PROFILE => Content::Profile,
+        ASSIGN_ONU_ID => Content::AssignOnuId(onu_in(m), serial_at(m, 6)),
+        RANGING_TIME => Content::RangingTime(adjustment(m[4]), number32(m, 5)),
+        DEACTIVATE_ONU_ID => Content::DeactivateOnuId,
+        DISABLE_SERIAL_NUMBER => Content::DisableSerialNumber(switch(m[4]), serial_at(m, 5)),
+        REQUEST_REGISTRATION => Content::RequestRegistration,
+        ASSIGN_ALLOC_ID => Content::AssignAllocId(alloc_in(m), change(m[6])),
+        KEY_CONTROL => Content::KeyControl,
+        SLEEP_ALLOW => Content::SleepAllow,
         _ => Content::Unknown(kind),
     }
 }
@@ -133,7 +140,7 @@ pub fn read(m: &[u8]) -> Received
         return Received::Short;
     }
     Received::Whole(Message {
-        address: address(m),
+        address: address(m[0], m[1]),
         seq: m[3],
         content: content(m),
     })

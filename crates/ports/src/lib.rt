@@ -1,30 +1,64 @@
 // The ports and their slots of port memory: slot 0 is the management port's, slots 1 to 16 are those of added ports.
 ghost use mathlib.Core.Path.{_≡_};
+ghost use mathlib.Core.List.{List};
+ghost use mathlib.Core.Bool.{Bool};
 ghost use Prim.Native.Nat.{_<_, _≤_};
 ghost use lib.ListN.{length, take};
+ghost use Rattle.ids.specs.declared.PortId.{PortId};
 ghost use Rattle.ids.specs.Ids.{samePort};
 ghost use Rattle.ids.specs.Places.{placeFrom, Below};
 ghost use Rattle.ports.specs.Limits.{addedPorts};
-ghost use Rattle.ports.specs.Ports.{noPort, noPorts, dropOne, dropAll, clearManagement, portPlace, vacancy, putPort, addPort, removePort};
+ghost use Rattle.ports.specs.Ports.{noPort, portsOf, noPorts, dropOne, dropAll, appended, delivered, ifSlot, clearManagement, portPlace, vacancy, putPort, addPort, removePort};
 use ids::Place;
 use ids::PortId;
 
 pub const ADDED_PORTS: usize = 16;
 
-pub const SLOTS: usize = 17;
+pub const SLOTS: usize = 1 + ADDED_PORTS;
 
-// The bytes of a slot: no SDU that comes in fragments is longer.
-pub const SLOT_BYTES: usize = 2048;
+// No SDU that comes in fragments is longer.
+pub const SDU_BYTES: usize = 2048;
+
+// A slot has room for the longest.
+pub const SLOT_BYTES: usize = SDU_BYTES;
 
 // `ids[i]` has slot i + 1, and is 0 where that slot is empty. An unfinished SDU has `lengths[i]` bytes in slot i; where
 // the slot's port waits, what comes is discarded up to and with the next last fragment.
 pub struct Ports {
-    pub ids: [PortId; 16],
-    pub lengths: [u16; 17],
-    pub waiting: [bool; 17],
+    pub ids: [PortId; ADDED_PORTS],
+    pub lengths: [u16; SLOTS],
+    pub waiting: [bool; SLOTS],
 }
 
-fn find_port(ids: [PortId; 16], id: PortId) -> Place
+// What happens to a slot's unfinished SDU, for a walk that keeps the ports by their parts: single elements change, and nothing
+// is copied. A slot of 17 or more changes nothing.
+
+pub fn drop_in(lengths: &mut [u16; SLOTS], waiting: &mut [bool; SLOTS], slot: usize, waits: bool)
+    ensures { λ _. ⌜ ((ids : List PortId) → portsOf ids (now (lengths .exit)) (now (waiting .exit)) ≡ ifSlot slot (λ p. dropOne p slot waits) (portsOf ids (now (lengths .entry)) (now (waiting .entry)))) ⌝ }
+{
+    if slot < SLOTS {
+        lengths[slot] = 0;
+        waiting[slot] = waits;
+    }
+}
+
+pub fn append_in(lengths: &mut [u16; SLOTS], slot: usize, bytes: u16)
+    ensures { λ _. ⌜ ((ids : List PortId) (waiting : List Bool) → portsOf ids (now (lengths .exit)) waiting ≡ ifSlot slot (λ p. appended p slot bytes) (portsOf ids (now (lengths .entry)) waiting)) ⌝ }
+{
+    if slot < SLOTS {
+        lengths[slot] = bytes;
+    }
+}
+
+pub fn deliver_in(lengths: &mut [u16; SLOTS], slot: usize)
+    ensures { λ _. ⌜ ((ids : List PortId) (waiting : List Bool) → portsOf ids (now (lengths .exit)) waiting ≡ ifSlot slot (λ p. delivered p slot) (portsOf ids (now (lengths .entry)) waiting)) ⌝ }
+{
+    if slot < SLOTS {
+        lengths[slot] = 0;
+    }
+}
+
+fn find_port(ids: [PortId; ADDED_PORTS], id: PortId) -> Place
     ensures { λ r. ⌜ (r ≡ placeFrom (samePort id) 0 ids) × (Below r addedPorts) ⌝ }
 {
     let mut i: usize = 0;
@@ -54,9 +88,20 @@ impl Ports {
     {
         let none = PortId(0);
         Ports {
-            ids: [none; 16],
-            lengths: [0u16; 17],
-            waiting: [true; 17],
+            ids: [none; ADDED_PORTS],
+            lengths: [0u16; SLOTS],
+            waiting: [true; SLOTS],
+        }
+    }
+
+    // The parts together again.
+    pub fn of(ids: [PortId; ADDED_PORTS], lengths: [u16; SLOTS], waiting: [bool; SLOTS]) -> Ports
+        ensures { λ r. ⌜ r ≡ portsOf ids lengths waiting ⌝ }
+    {
+        Ports {
+            ids: ids,
+            lengths: lengths,
+            waiting: waiting,
         }
     }
 
@@ -76,8 +121,24 @@ impl Ports {
     pub fn drop_all(mut self) -> Ports
         ensures { λ r. ⌜ r ≡ dropAll self ⌝ }
     {
-        self.lengths = [0u16; 17];
-        self.waiting = [true; 17];
+        self.lengths = [0u16; SLOTS];
+        self.waiting = [true; SLOTS];
+        self
+    }
+
+    // A fragment is added to the slot's unfinished SDU, which then has so many bytes.
+    pub fn append(mut self, slot: usize, bytes: u16) -> Ports
+        ensures { λ r. ⌜ r ≡ appended self slot bytes ⌝ }
+    {
+        append_in(&mut self.lengths, slot, bytes);
+        self
+    }
+
+    // The slot's unfinished SDU is delivered.
+    pub fn deliver(mut self, slot: usize) -> Ports
+        ensures { λ r. ⌜ r ≡ delivered self slot ⌝ }
+    {
+        deliver_in(&mut self.lengths, slot);
         self
     }
 

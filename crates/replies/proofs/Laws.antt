@@ -12,26 +12,26 @@ use Rattle.cmac.specs.Tags.{preparedBy}
 use Rattle.cmac.specs.declared.Prepared.{Prepared}
 use Rattle.integrity.specs.Integrity.{defaultKey, installedKey}
 use Rattle.integrity.proofs.Keys.{default-octets}
-use Rattle.upstream.specs.declared.UpstreamMessage.{UpstreamMessage}
-use Rattle.upstream.specs.Upstream.{upstreamOctets}
-use Rattle.upstream.specs.Writing.{Outcome, Leaves, written, writtenBy}
-use Rattle.upstream.proofs.RoundTrip.{written-prepared}
+use Rattle.ploamu.specs.declared.UpstreamMessage.{UpstreamMessage}
+use Rattle.ploamu.specs.Upstream.{upstreamOctets}
+use Rattle.ploamu.specs.Writing.{MessageLeft, Leaves, written, writtenBy}
+use Rattle.ploamu.proofs.RoundTrip.{written-prepared}
 use Rattle.station.specs.declared.Activation.{Activation}
 use Rattle.station.specs.declared.Activation.the-variants.{Initial, SerialNumber, Ranging, Operation, Intermittent, EmergencyStop}
 use Rattle.station.specs.declared.Station.{Station}
 use Rattle.link.specs.declared.Key.{Key}
-use Rattle.activation.specs.Receiving.{Installed}
-use Rattle.activation.specs.Replying.{afterIn, afterReply}
-use Rattle.activation.proofs.Receiving.{key-is}
-use Rattle.replies.specs.Replies.{keyOf, inPlace, wrote, repliesFrom, Keyed, Left}
+use Rattle.messages.specs.Receiving.{Installed}
+use Rattle.replies.specs.Replying.{afterIn, afterReply}
+use Rattle.messages.proofs.Receiving.{key-is}
+use Rattle.replies.specs.Replies.{keyOf, inPlace, wrote, repliesFrom, Keyed, RepliesLeft}
 
 -- what the prepared keys write is what the station's key would
 pub written-true
-    : (usual installed : Prepared) (k : Key) (m : UpstreamMessage) (id target : List ℕ) (left : Outcome)
+    : (usual installed : Prepared) (k : Key) (m : UpstreamMessage) (id target : List ℕ) (left : MessageLeft)
     → Keyed usual installed k → Leaves (writtenBy usual installed m id target) (upstreamOctets m id) left
     → left .target ≡ written (keyOf k) m id target .target
 written-true usual installed k m id target left h w =
-    ap (λ (o : Outcome). o .target)
+    ap (λ (o : MessageLeft). o .target)
     (w .made
     ∙ ap (λ (u : Prepared). writtenBy u installed m id target) (h .default)
     ∙ ap (λ (u : Prepared). writtenBy (preparedBy (wordsOf defaultKey)) u m id target) (h .own)

@@ -9,12 +9,12 @@ use Rattle.cmac.specs.Tags.{preparedBy}
 use Rattle.cmac.specs.declared.Prepared.{Prepared}
 use Rattle.ploam.specs.Layout.{messageOctets}
 use Rattle.integrity.specs.Integrity.{defaultKey, installedKey}
-use Rattle.upstream.specs.Writing.{written}
+use Rattle.ploamu.specs.Writing.{written}
 use Rattle.station.specs.declared.Station.{Station}
 use Rattle.link.specs.declared.Key.{Key}
-use Rattle.activation.specs.Replying.{replyOf, afterReply}
-use Rattle.activation.specs.declared.replying.Reply.{Reply}
-use Rattle.activation.specs.declared.replying.Reply.the-variants.{Silent, Says}
+use Rattle.replies.specs.Replying.{replyOf, afterReply}
+use Rattle.replies.specs.declared.replying.Reply.{Reply}
+use Rattle.replies.specs.declared.replying.Reply.the-variants.{Silent, Says}
 
 -- the key that signs: the installed one, or the default if none
 abbrev pub keyOf : Key → List ℕ
@@ -35,16 +35,16 @@ inPlace s delay b i =
     ++ (wrote s delay (take messageOctets (drop (messageOctets * i) b)) ++ drop messageOctets (drop (messageOctets * i) b))
 
 -- the station and the buffer afterwards
-pub record Left : Type 0 where
+pub record RepliesLeft : Type 0 where
   pub station : Station
   pub octets : List ℕ
 
-abbrev pub repliesFrom : Station → ℕ → List ℕ → ℕ → ℕ → Left
+abbrev pub repliesFrom : Station → ℕ → List ℕ → ℕ → ℕ → RepliesLeft
 repliesFrom s delay b i zero = record { station = s; octets = b }
 repliesFrom s delay b i (suc k) = repliesFrom (afterReply s) delay (inPlace s delay b i) (i + 1) k
 
 -- n bursts send, as far as the buffer has room
-abbrev pub Replied : Station → ℕ → ℕ → List ℕ → Left → Type 0
+abbrev pub Replied : Station → ℕ → ℕ → List ℕ → RepliesLeft → Type 0
 Replied s n delay b left = left ≡ repliesFrom s delay b 0 (min n (length b / messageOctets))
 
 -- ---- the prepared keys are those of the station

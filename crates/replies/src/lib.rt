@@ -5,10 +5,13 @@ ghost use mathlib.Core.Path.{_≡_};
 ghost use Prim.Native.Nat.{min, _*_, _≤_, _<_, _^_};
 ghost use Rattle.ploam.specs.Layout.{messageOctets};
 ghost use lib.ListN.{length};
-ghost use Rattle.replies.specs.Replies.{Keyed, wrote, Left, repliesFrom, Replied};
-use activation::replying::Reply;
+ghost use Rattle.replies.specs.Replies.{Keyed, wrote, RepliesLeft, repliesFrom, Replied};
+
+pub mod replying;
+
 use cmac::Prepared;
 use ploam::MESSAGE_OCTETS;
+use replying::Reply;
 use station::Station;
 
 fn write_reply(usual: Prepared, installed: Prepared, s: Station, delay: u32, target: &mut [u8])
@@ -16,10 +19,10 @@ fn write_reply(usual: Prepared, installed: Prepared, s: Station, delay: u32, tar
     ensures { λ _. ⌜ now (target .exit) ≡ wrote s delay (now (target .entry)) ⌝ }
 {
     let id = s.registration;
-    match activation::replying::reply_of(s, delay) {
+    match replying::reply_of(s, delay) {
         Reply::Silent => {}
         Reply::Says(message) => {
-            upstream::writing::write(usual, installed, message, id, target);
+            ploamu::writing::write(usual, installed, message, id, target);
         }
     }
 }
@@ -41,7 +44,7 @@ fn write_each(
         let at = MESSAGE_OCTETS * i;
         let end = at + MESSAGE_OCTETS;
         write_reply(usual, installed, next, delay, &mut replies[at..end]);
-        next = activation::replying::after_reply(next);
+        next = replying::after_reply(next);
         i += 1;
     }
     next
@@ -64,6 +67,6 @@ pub fn reply_all(s: Station, n: usize, delay: u32, replies: &mut [u8]) -> Statio
     let usual = integrity::default_key();
     let link = s.link;
     let key = link.key;
-    let installed = activation::installed_key(usual, key);
+    let installed = messages::installed_key(usual, key);
     write_each(usual, installed, s, k, delay, replies)
 }

@@ -1,10 +1,10 @@
 -- No second outcome: each public function's answer is fixed by what it is given.
 -- Assumes nothing.
-use Prim.Native.Nat.{ℕ}
 use mathlib.Core.Path.{_≡_, _∙_, sym}
 use mathlib.Core.Bool.{Bool}
 use Rattle.xgtc.specs.declared.allocation.Allocation.{Allocation}
 use Rattle.series.specs.Opens.{closed, opened, goesOn, fits}
+use Rattle.series.specs.declared.Around.{Around}
 use Rattle.series.specs.declared.Open.{Open}
 
 pub closed-once : (a b : Open) → a ≡ closed → b ≡ closed → a ≡ b
@@ -16,5 +16,5 @@ opened-once h a b p q = p ∙ sym q
 pub goes-on-once : (s : Open) (a b : Bool) → a ≡ goesOn s → b ≡ goesOn s → a ≡ b
 goes-on-once s a b p q = p ∙ sym q
 
-pub fits-once : (e n : ℕ) (s : Open) (a b : Bool) → a ≡ fits e n s → b ≡ fits e n s → a ≡ b
-fits-once e n s a b p q = p ∙ sym q
+pub fits-once : (around : Around) (s : Open) (a b : Bool) → a ≡ fits around s → b ≡ fits around s → a ≡ b
+fits-once around s a b p q = p ∙ sym q

@@ -10,6 +10,7 @@ use Rattle.xgtc.specs.declared.allocation.Allocation.{Allocation}
 use Rattle.entries.specs.Standings.{isPlanned}
 use Rattle.series.specs.Series.{wordsOf, judged}
 use Rattle.series.specs.Opens.{closed, goesOn, fits, Modest}
+use Rattle.series.specs.declared.Around.{Around}
 use Rattle.series.specs.declared.Open.{Open}
 
 pub goes-on-facts : (s : Open) → goesOn s ≡ true → (0 < s .entries) × (s .entries ≤ 15)
@@ -30,17 +31,17 @@ full-or-none s k h one = go (ltb 0 (s .entries)) (leb (s .entries) 15) refl refl
     go true false p q e = omega (arith, leb-false (s .entries) 15 q)
     go false b p q e = omega (arith, ltb-false 0 (s .entries) p)
 
-pub fits-facts : (e n : ℕ) (s : Open) → fits e n s ≡ true → (0 < s .entries) × (isPlanned (judged e n (s .start) (s .words)) ≡ true)
+pub fits-facts : (around : Around) (s : Open) → fits around s ≡ true → (0 < s .entries) × (isPlanned (judged around (s .start) (s .words)) ≡ true)
 unfolding fits
-fits-facts e n s h = go (ltb 0 (s .entries)) refl h
+fits-facts around s h = go (ltb 0 (s .entries)) refl h
   where
-    go : (a : Bool) → ltb 0 (s .entries) ≡ a → (a && isPlanned (judged e n (s .start) (s .words))) ≡ true → (0 < s .entries) × (isPlanned (judged e n (s .start) (s .words)) ≡ true)
+    go : (a : Bool) → ltb 0 (s .entries) ≡ a → (a && isPlanned (judged around (s .start) (s .words))) ≡ true → (0 < s .entries) × (isPlanned (judged around (s .start) (s .words)) ≡ true)
     go true p q = (ltb-true 0 (s .entries) p, q)
     go false p q = absurd (false≢true q)
 
-pub unfit : (e n : ℕ) (s : Open) → 0 < s .entries → fits e n s ≡ false → isPlanned (judged e n (s .start) (s .words)) ≡ false
+pub unfit : (around : Around) (s : Open) → 0 < s .entries → fits around s ≡ false → isPlanned (judged around (s .start) (s .words)) ≡ false
 unfolding fits
-unfit e n s h f = sym (rw (lt-ltb 0 (s .entries) h)) ∙ f
+unfit around s h f = sym (rw (lt-ltb 0 (s .entries) h)) ∙ f
 
 pub closed-modest : (s : Open) → s ≡ closed → Modest s
 closed-modest s e = rw e (record { few = omega arith; start = omega arith; words = omega arith })

@@ -1,6 +1,6 @@
 -- The numbers of the paper that bound a series.
 -- Assumes nothing.
-use Prim.Native.Nat.{ℕ}
+use Prim.Native.Nat.{ℕ, _-_}
 use Rattle.station.specs.Limits.{upstreamWords}
 
 -- "4 bursts a frame, 16 entries a burst, 9,720 words a burst"
@@ -9,6 +9,10 @@ burstsAFrame = 4
 
 abbrev pub entriesABurst : ℕ
 entriesABurst = 16
+
+-- those that may follow the head
+abbrev pub moreABurst : ℕ
+moreABurst = entriesABurst - 1
 
 abbrev pub wordsABurst : ℕ
 wordsABurst = upstreamWords

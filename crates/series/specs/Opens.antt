@@ -1,12 +1,13 @@
 -- A series as its entries are read one after another.
 -- Assumes nothing.
-use Prim.Native.Nat.{ℕ, _+_, _-_, _*_, _≤_, _<_}
+use Prim.Native.Nat.{_+_, _*_, _≤_, _<_}
 use mathlib.Core.Bool.{Bool, _&&_}
 use lib.Dec.{ltb, leb}
 use Rattle.xgtc.specs.declared.allocation.Allocation.{Allocation}
 use Rattle.entries.specs.Standings.{isPlanned}
-use Rattle.series.specs.Limits.{entriesABurst}
+use Rattle.series.specs.Limits.{entriesABurst, moreABurst}
 use Rattle.series.specs.Series.{wordsOf, judged}
+use Rattle.series.specs.declared.Around.{Around}
 use Rattle.series.specs.declared.Open.{Open}
 
 abbrev pub closed : Open
@@ -20,11 +21,11 @@ joined s a = record { entries = s .entries + 1; start = s .start; words = s .wor
 
 -- one is open, and has room for one more
 unfoldable pub goesOn : Open → Bool
-goesOn s = ltb 0 (s .entries) && leb (s .entries) (entriesABurst - 1)
+goesOn s = ltb 0 (s .entries) && leb (s .entries) moreABurst
 
 -- one is open, and is planned as it ends
-unfoldable pub fits : ℕ → ℕ → Open → Bool
-fits e n s = ltb 0 (s .entries) && isPlanned (judged e n (s .start) (s .words))
+unfoldable pub fits : Around → Open → Bool
+fits around s = ltb 0 (s .entries) && isPlanned (judged around (s .start) (s .words))
 
 -- its numbers stay small
 pub record Modest (s : Open) : Type 0 where

@@ -6,17 +6,18 @@ use mathlib.Core.List.{List, [], _∷_}
 use lib.Dec.{ltb, leb}
 use lib.ListN.{length, drop}
 use Rattle.xgtc.specs.declared.allocation.Allocation.{Allocation}
-use Rattle.framing.specs.Reads.{Found}
+use Rattle.xgem.specs.Reads.{Found}
 use Rattle.xgtc.specs.Reads.{readAllocation}
 use Rattle.station.specs.Limits.{upstreamWords}
 use Rattle.entries.specs.declared.Own.{Own}
 use Rattle.entries.specs.declared.Verdict.{Verdict}
-use Rattle.entries.specs.declared.Verdict.the-variants.{Planned, TooLong, Overlapping, AfterTheFourth}
+use Rattle.entries.specs.declared.Verdict.the-variants.{Planned, TooLong, Overlapping, AfterTheLast}
 use Rattle.entries.specs.declared.Standing.{Standing}
 use Rattle.entries.specs.declared.Standing.the-variants.{Apart, Head, More}
 use Rattle.entries.specs.Limits.{structureOctets}
 use Rattle.entries.specs.Standings.{standing, isPlanned}
-use Rattle.series.specs.Limits.{burstsAFrame, entriesABurst, wordsABurst, ploamuWords}
+use Rattle.series.specs.declared.Around.{Around}
+use Rattle.series.specs.Limits.{burstsAFrame, moreABurst, wordsABurst, ploamuWords}
 
 -- ---- the entries of a map
 
@@ -52,7 +53,7 @@ run (suc k) (More a ∷ l) = a ∷ run k l
 
 -- "A series is a head of ours and the entries straight after it"; "a 17th closes it"
 abbrev pub seriesAt : Allocation → List Standing → Series
-seriesAt a l = record { head = a; more = run (entriesABurst - 1) l }
+seriesAt a l = record { head = a; more = run moreABurst l }
 
 abbrev pub seriesOf : List Standing → List Series
 seriesOf [] = []
@@ -87,26 +88,35 @@ abbrev pub firstOf : List Reason → Verdict
 firstOf [] = Planned
 firstOf (r ∷ l) = cond (r .applies) (r .verdict) (firstOf l)
 
--- why a burst of so many words at `start` is passed over, after n planned ones of which the last ends at e: "over 9,720
--- words; starts before the word where the last planned burst ends; four are planned already"
-abbrev pub reasons : ℕ → ℕ → ℕ → ℕ → List Reason
-reasons e n start words =
+-- what is around a series: the word where the last planned burst ends, and how many the frame has planned before it. As a frame
+-- arrives, the words carried over stand for the last burst
+abbrev pub outset : ℕ → Around
+outset carried = record { end = carried; bursts = 0 }
+
+-- and beyond one that is planned
+abbrev pub beyond : Around → Series → Around
+beyond around s = record { end = endOf s; bursts = around .bursts + 1 }
+
+-- why a burst of so many words at `start` is passed over: "over 9,720 words; starts before the word where the last planned burst
+-- ends; four are planned already"
+abbrev pub reasons : Around → ℕ → ℕ → List Reason
+reasons around start words =
     record { applies = ltb wordsABurst words; verdict = TooLong }
-    ∷ record { applies = ltb start e; verdict = Overlapping }
-    ∷ record { applies = leb burstsAFrame n; verdict = AfterTheFourth }
+    ∷ record { applies = ltb start (around .end); verdict = Overlapping }
+    ∷ record { applies = leb burstsAFrame (around .bursts); verdict = AfterTheLast }
     ∷ []
 
 -- "for the first reason that applies"
-unfoldable pub judged : ℕ → ℕ → ℕ → ℕ → Verdict
-judged e n start words = firstOf (reasons e n start words)
+unfoldable pub judged : Around → ℕ → ℕ → Verdict
+judged around start words = firstOf (reasons around start words)
 
-abbrev pub verdictOf : ℕ → ℕ → Series → Verdict
-verdictOf e n s = judged e n (s .head .start) (burstWords s)
+abbrev pub verdictOf : Around → Series → Verdict
+verdictOf around s = judged around (s .head .start) (burstWords s)
 
--- the series that are planned, after n bursts of which the last ends at e. One that is passed over moves nothing
-abbrev pub planned : ℕ → ℕ → List Series → List Series
-planned e n [] = []
-planned e n (s ∷ l) = cond (isPlanned (verdictOf e n s)) (s ∷ planned (endOf s) (n + 1) l) (planned e n l)
+-- the series that are planned. One that is passed over moves nothing
+abbrev pub planned : Around → List Series → List Series
+planned around [] = []
+planned around (s ∷ l) = cond (isPlanned (verdictOf around s)) (s ∷ planned (beyond around s) l) (planned around l)
 
 -- the word where the last burst ends: that of the frame before, which ends at e, until one is planned
 abbrev pub lastEnd : ℕ → List Series → ℕ
@@ -119,4 +129,4 @@ carriedOver e = e - upstreamWords
 
 -- what is planned of a map, with the words carried over from the frame before
 abbrev pub plannedOf : Own → List ℕ → ℕ → List Series
-plannedOf own m carried = planned carried 0 (seriesOf (standings own m))
+plannedOf own m carried = planned (outset carried) (seriesOf (standings own m))

@@ -1,6 +1,7 @@
 // A burst allocation series (clause 8.1.2), as far as the entries of the map that make it are read: where its burst
 // starts, how many words that takes, whether it has room for one more entry, and whether it is planned.
 use entries::Verdict;
+use station::limits::UPSTREAM_WORDS;
 use xgtc::allocation::Allocation;
 ghost use Prim.Native.Nat.{_≤_, _<_};
 ghost use mathlib.Core.Path.{_≡_};
@@ -10,14 +11,21 @@ ghost use Rattle.series.specs.Opens.{closed, opened, goesOn, fits, Modes
 // Bursts that a frame may have planned.
 pub const BURSTS_A_FRAME: usize = 4;
 
-// Entries that may follow the head of a burst.
-const MORE_A_BURST: usize = 15;
+// Entries of a burst, its head among them.
+pub const ENTRIES_A_BURST: usize = 16;
 
-// Words of a burst.
-const WORDS_A_BURST: usize = 9720;
+const MORE_A_BURST: usize = ENTRIES_A_BURST - 1;
+
+const WORDS_A_BURST: usize = UPSTREAM_WORDS;
 
 // Words of a PLOAMu.
 const PLOAMU_WORDS: usize = 12;
+
+// What is around a series: the word where the last planned burst ends, and how many the frame has planned before it.
+pub struct Around {
+    pub end: usize,
+    pub bursts: usize,
+}
 
 // A series as far as it is read: its entries, none where no series is open; the word where its burst starts, and the
 // words of that burst.
@@ -71,28 +79,28 @@ pub fn goes_on(s: Open) -> bool
     0 < s.entries && s.entries <= MORE_A_BURST
 }
 
-// What becomes of a burst of so many words at `start`, after so many planned ones of which the last ends at `end`.
-fn judge(end: usize, bursts: usize, start: usize, words: usize) -> Verdict
-    ensures { λ r. ⌜ r ≡ judged end bursts start words ⌝ }
+// What becomes of a burst of so many words at `start`.
+fn judge(around: Around, start: usize, words: usize) -> Verdict
+    ensures { λ r. ⌜ r ≡ judged around start words ⌝ }
 {
     if WORDS_A_BURST < words {
         return Verdict::TooLong;
     }
-    if start < end {
+    if start < around.end {
         return Verdict::Overlapping;
     }
-    if BURSTS_A_FRAME <= bursts {
-        return Verdict::AfterTheFourth;
+    if BURSTS_A_FRAME <= around.bursts {
+        return Verdict::AfterTheLast;
     }
     Verdict::Planned
 }
 
 // Whether a series is open and, as it ends, planned.
-pub fn fits(end: usize, bursts: usize, s: Open) -> bool
-    ensures { λ r. ⌜ r ≡ fits end bursts s ⌝ }
+pub fn fits(around: Around, s: Open) -> bool
+    ensures { λ r. ⌜ r ≡ fits around s ⌝ }
 {
     if 0 < s.entries {
-        let verdict = judge(end, bursts, s.start, s.words);
+        let verdict = judge(around, s.start, s.words);
         return verdict.is_planned();
     }
     false

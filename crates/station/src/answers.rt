@@ -1,6 +1,7 @@
 // What a call answers, and the number of each answer in the paper's table.
 ghost use mathlib.Core.Path.{_≡_};
 ghost use Rattle.station.specs.Answers.{answerNumber};
+use super::Station;
 
 pub enum Answer {
     Done,
@@ -36,4 +37,10 @@ impl Answer {
             Answer::NotWritten => 11,
         }
     }
+}
+
+// What a call answers and the station that it leaves.
+pub struct Outcome {
+    pub answer: Answer,
+    pub station: Station,
 }

@@ -1,7 +1,7 @@
 // The station's state of clause 12, by value: where it stands in the activation, what the head end has given it, its
 // ports, and the words that its last burst carries into the next frame.
 ghost use mathlib.Core.Path.{_≡_};
-ghost use Rattle.station.specs.States.{holdsIdentity, stateNumber};
+ghost use Rattle.station.specs.States.{holdsIdentity, isOperating, isRanging, silent, stateNumber};
 ghost use Rattle.station.specs.Station.{withActivation, withLink, withPorts, withCarried};
 ghost use Rattle.station.specs.Station.{powerOn, enter};
 use link::Link;
@@ -10,7 +10,20 @@ use ports::Ports;
 pub mod answers;
 pub mod limits;
 
-// The states of clause 12.1. Only O4 and O6 count, and only they carry a count: what is left of TO1 and of TO2.
+// The states of clause 12.1 by the numbers that the paper prints.
+pub const O1: u8 = 1;
+
+pub const O23: u8 = 2;
+
+pub const O4: u8 = 4;
+
+pub const O5: u8 = 5;
+
+pub const O6: u8 = 6;
+
+pub const O7: u8 = 7;
+
+// Only O4 and O6 count, and only they carry a count: what is left of TO1 and of TO2.
 pub enum Activation {
     Initial,
     SerialNumber,
@@ -35,17 +48,58 @@ impl Activation {
         }
     }
 
+    // In O1, O6 and O7 a station sends nothing.
+    pub fn is_silent(self) -> bool
+        ensures { λ r. ⌜ r ≡ silent self ⌝ }
+    {
+        match self {
+            Activation::Initial => true,
+            Activation::SerialNumber => false,
+            Activation::Ranging(_) => false,
+            Activation::Operation => false,
+            Activation::Intermittent(_) => true,
+            Activation::EmergencyStop => true,
+        }
+    }
+
+    pub fn is_ranging(self) -> bool
+        ensures { λ r. ⌜ r ≡ isRanging self ⌝ }
+    {
+        match self {
+            Activation::Initial => false,
+            Activation::SerialNumber => false,
+            Activation::Ranging(_) => true,
+            Activation::Operation => false,
+            Activation::Intermittent(_) => false,
+            Activation::EmergencyStop => false,
+        }
+    }
+
+    // Only a frame that arrives in O5 has its payload walked.
+    pub fn is_operating(self) -> bool
+        ensures { λ r. ⌜ r ≡ isOperating self ⌝ }
+    {
+        match self {
+            Activation::Initial => false,
+            Activation::SerialNumber => false,
+            Activation::Ranging(_) => false,
+            Activation::Operation => true,
+            Activation::Intermittent(_) => false,
+            Activation::EmergencyStop => false,
+        }
+    }
+
     // The number by which the bench run prints the state.
     pub fn number(self) -> u8
         ensures { λ r. ⌜ r ≡ stateNumber self ⌝ }
     {
         match self {
-            Activation::Initial => 1,
-            Activation::SerialNumber => 2,
-            Activation::Ranging(_) => 4,
-            Activation::Operation => 5,
-            Activation::Intermittent(_) => 6,
-            Activation::EmergencyStop => 7,
+            Activation::Initial => O1,
+            Activation::SerialNumber => O23,
+            Activation::Ranging(_) => O4,
+            Activation::Operation => O5,
+            Activation::Intermittent(_) => O6,
+            Activation::EmergencyStop => O7,
         }
     }
 }

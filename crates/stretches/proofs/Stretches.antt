@@ -12,23 +12,22 @@ use lib.Dec.{eqb}
 use lib.ListN.{length, getD, take, drop, length-drop}
 use lib.Seq.{length-take-le, drop-drop}
 use Rattle.ids.specs.declared.PortId.{PortId}
-use Rattle.framing.specs.declared.xgem.XgemHeader.{XgemHeader}
-use Rattle.framing.specs.Layouts.{payloadSize}
-use Rattle.framing.proofs.Frames.{covers}
+use Rattle.xgem.specs.declared.frame.XgemHeader.{XgemHeader}
+use Rattle.xgem.specs.Layouts.{payloadSize}
+use Rattle.xgem.proofs.Frames.{covers}
 use Rattle.ports.specs.declared.Ports.{Ports}
 use Rattle.ports.specs.Limits.{addedPorts}
-use Rattle.fragments.specs.declared.Effect.{Effect}
-use Rattle.fragments.specs.declared.Effect.the-variants.{Nothing, Discard, Deliver, Append}
-use Rattle.fragments.specs.Fragments.{effectOf}
+use Rattle.fragments.specs.declared.Reassembly.{Reassembly}
+use Rattle.fragments.specs.declared.Reassembly.the-variants.{Ignored, Dropped, Delivered, Appended}
+use Rattle.fragments.specs.Fragments.{reassemblyOf, portsAfter}
+use Rattle.fragments.proofs.Decided.{ids-after}
 use Rattle.payload.specs.declared.frames.Next.the-variants.{Done, Lost, Frame}
 use Rattle.stretches.specs.declared.Extent.{Extent}
 use Rattle.stretches.specs.declared.Seek.{Seek}
 use Rattle.stretches.specs.declared.Seek.the-variants.{Ahead, Found}
 use Rattle.stretches.specs.declared.StretchPlace.{StretchPlace}
 use Rattle.payload.specs.Frames.{Xgem, nextOf, Parsed, ended, with, frameOf, parse}
-use Rattle.payload.specs.Memory.{after}
 use Rattle.stretches.specs.Stretch.{noExtent, aloneAt, stretches, stretchIn, stretchOf, sought, settled}
-use Rattle.payload.proofs.Steps.{ids-after}
 use Rattle.payload.proofs.Walks.{frame-inside, parse-done, parse-lost, parse-next}
 
 -- what a search says of the stretches that are still to come
@@ -40,13 +39,13 @@ answer-end : (k : Seek) → answer k [] ≡ settled k
 answer-end (Found t) = refl
 answer-end (Ahead left) = refl
 
-answer-on : (k : Seek) (e : Effect) (at n : ℕ) (rest : List Extent) → answer k (aloneAt e at n ++ rest) ≡ answer (sought k e at n) rest
+answer-on : (k : Seek) (e : Reassembly) (at n : ℕ) (rest : List Extent) → answer k (aloneAt e at n ++ rest) ≡ answer (sought k e at n) rest
 answer-on (Found t) e at n rest = refl
-answer-on (Ahead left) Nothing at n rest = refl
-answer-on (Ahead left) (Discard slot waits) at n rest = refl
-answer-on (Ahead zero) (Deliver slot have) at n rest = refl
-answer-on (Ahead (suc left)) (Deliver slot have) at n rest = rw (ne-eqb (suc left) 0 (suc-ne-zero left), sub-one (suc left))
-answer-on (Ahead left) (Append slot have) at n rest = refl
+answer-on (Ahead left) Ignored at n rest = refl
+answer-on (Ahead left) (Dropped slot waits) at n rest = refl
+answer-on (Ahead zero) (Delivered slot have) at n rest = refl
+answer-on (Ahead (suc left)) (Delivered slot have) at n rest = rw (ne-eqb (suc left) 0 (suc-ne-zero left), sub-one (suc left))
+answer-on (Ahead left) (Appended slot have) at n rest = refl
 
 -- at index at: the search over what is still to come finds what the search over the whole finds
 pub record Seen (own : PortId) (payload : List ℕ) (p₀ : Ports) (k : ℕ) (p : Ports) (seek : Seek) (at : ℕ) : Type 0 where
@@ -74,8 +73,8 @@ module _ (own : PortId) (payload : List ℕ) (p₀ : Ports) (k : ℕ) (p : Ports
   pub seen-lost : nextOf (drop at payload) ≡ Lost → (r : StretchPlace) → r ≡ record { stretch = settled seek; lost = true } → r ≡ stretchOf own p₀ payload k
   seen-lost e = ended-with true (parse-lost at (drop at payload) e)
 
-  pub seen-on : (x : XgemHeader) → nextOf (drop at payload) ≡ Frame x → (e : Effect) → e ≡ effectOf p own (x .port) (x .last) (x .pli)
-      → (seek′ : Seek) → seek′ ≡ sought seek e (at + 8) (x .pli) → (p′ : Ports) → p′ ≡ after p e (x .pli)
+  pub seen-on : (x : XgemHeader) → nextOf (drop at payload) ≡ Frame x → (e : Reassembly) → e ≡ reassemblyOf p own (x .port) (x .last) (x .pli)
+      → (seek′ : Seek) → seek′ ≡ sought seek e (at + 8) (x .pli) → (p′ : Ports) → p′ ≡ portsAfter p e (x .pli)
       → Seen own payload p₀ k p′ seek′ (at + 8 + payloadSize (x .pli))
   unfolding stretches
   seen-on x n e ee seek′ es p′ ep =
@@ -94,10 +93,10 @@ module _ (own : PortId) (payload : List ℕ) (p₀ : Ports) (k : ℕ) (p : Ports
         ids = ap (λ (q : Ports). length (q .ids)) ep ∙ ap length (ids-after p e (x .pli)) ∙ v .ids;
         found =
             ap₂ (λ (s : Seek) (q : Ports). answer s (stretches own q frames)) es ep
-            ∙ sym (answer-on seek e (at + 8) (x .pli) (stretches own (after p e (x .pli)) frames))
-            ∙ ap (λ (z : Effect). answer seek (aloneAt z (at + 8) (x .pli) ++ stretches own (after p z (x .pli)) frames)) ee
-            ∙ ap (λ (j : ℕ). answer seek (aloneAt (effectOf p own (x .port) (x .last) j) (at + 8) j ++ stretches own (after p (effectOf p own (x .port) (x .last) j) j) frames)) (sym m)
-            ∙ ap (λ (q : Parsed). answer seek (aloneAt (effectOf p own (x .port) (x .last) (length body)) (at + 8) (length body) ++ stretches own (after p (effectOf p own (x .port) (x .last) (length body)) (length body)) (q .frames))) there
+            ∙ sym (answer-on seek e (at + 8) (x .pli) (stretches own (portsAfter p e (x .pli)) frames))
+            ∙ ap (λ (z : Reassembly). answer seek (aloneAt z (at + 8) (x .pli) ++ stretches own (portsAfter p z (x .pli)) frames)) ee
+            ∙ ap (λ (j : ℕ). answer seek (aloneAt (reassemblyOf p own (x .port) (x .last) j) (at + 8) j ++ stretches own (portsAfter p (reassemblyOf p own (x .port) (x .last) j) j) frames)) (sym m)
+            ∙ ap (λ (q : Parsed). answer seek (aloneAt (reassemblyOf p own (x .port) (x .last) (length body)) (at + 8) (length body) ++ stretches own (portsAfter p (reassemblyOf p own (x .port) (x .last) (length body)) (length body)) (q .frames))) there
             ∙ ap (λ (q : Parsed). answer seek (stretches own p (q .frames))) (sym whole)
             ∙ v .found;
         lost = ap (λ (q : Parsed). q .lost) (there ∙ refl) ∙ ap (λ (q : Parsed). q .lost) (sym whole) ∙ v .lost;

@@ -2,17 +2,17 @@
 // the walk does, and touches no memory.
 ghost use mathlib.Core.Path.{_≡_};
 ghost use lib.ListN.{length};
+ghost use Rattle.fragments.specs.Fragments.{portsAfter};
 ghost use Rattle.fragments.specs.Within.{Within};
 ghost use Rattle.payload.specs.Frames.{nextOf};
 ghost use Rattle.payload.specs.Inside.{Inside};
-ghost use Rattle.payload.specs.Memory.{after};
 ghost use Rattle.stretches.specs.Stretch.{noExtent, sought, settled, stretchOf, cutOut};
-use fragments::Effect;
-use framing::xgem;
-use framing::xgem::XgemRead;
+use fragments::Reassembly;
 use ids::PortId;
 use payload::Next;
+use payload::XGEM_HEADER_BYTES;
 use ports::Ports;
+use xgem::XgemRead;
 
 // So many bytes from a place of the payload.
 pub struct Extent {
@@ -39,7 +39,7 @@ fn none() -> Extent
 }
 
 fn delivered(left: usize, have: usize, at: usize, n: usize) -> Seek
-    ensures { λ r. ⌜ r ≡ sought (Seek.Ahead left) (Effect.Deliver 0 have) at n ⌝ }
+    ensures { λ r. ⌜ r ≡ sought (Seek.Ahead left) (Reassembly.Delivered 0 have) at n ⌝ }
 {
     if left == 0 {
         if have == 0 {
@@ -52,16 +52,16 @@ fn delivered(left: usize, have: usize, at: usize, n: usize) -> Seek
     }
 }
 
-fn seek_on(seek: Seek, effect: Effect, at: usize, n: usize) -> Seek
-    ensures { λ r. ⌜ r ≡ sought seek effect at n ⌝ }
+fn seek_on(seek: Seek, what: Reassembly, at: usize, n: usize) -> Seek
+    ensures { λ r. ⌜ r ≡ sought seek what at n ⌝ }
 {
     match seek {
         Seek::Found(_) => seek,
-        Seek::Ahead(left) => match effect {
-            Effect::Nothing => seek,
-            Effect::Discard(_, _) => seek,
-            Effect::Deliver(_, have) => delivered(left, have, at, n),
-            Effect::Append(_, _) => seek,
+        Seek::Ahead(left) => match what {
+            Reassembly::Ignored => seek,
+            Reassembly::Dropped(_, _) => seek,
+            Reassembly::Delivered(_, have) => delivered(left, have, at, n),
+            Reassembly::Appended(_, _) => seek,
         },
     }
 }
@@ -84,7 +84,7 @@ fn settle(seek: Seek, lost: bool) -> StretchPlace
     }
 }
 
-// What payload's `frames::next_frame` finds. The search has a function of its own for it, as for a fragment's effect: with a second
+// What payload's `frames::next_frame` finds. The search has a function of its own for it, as for what a fragment does: with a second
 // caller those of the walk were no longer merged into its loop.
 fn next_ahead(left: &[u8]) -> Next
     ensures { λ r. ⌜ (r ≡ nextOf (now (left .entry))) × (Inside r (length (now (left .entry)))) ⌝ }
@@ -94,7 +94,7 @@ fn next_ahead(left: &[u8]) -> Next
         XgemRead::Short => Next::Done,
         XgemRead::Unreadable => Next::Lost,
         XgemRead::Fields(x) => {
-            if left.len() < 8 + xgem::payload_size(x.pli) {
+            if left.len() < XGEM_HEADER_BYTES + xgem::payload_size(x.pli) {
                 Next::Lost
             } else {
                 Next::Frame(x)
@@ -103,19 +103,15 @@ fn next_ahead(left: &[u8]) -> Next
     }
 }
 
-fn moved(ports: Ports, effect: Effect, n: usize) -> Ports
-    requires { ⌜ Within ports effect n ⌝ }
-    ensures { λ r. ⌜ r ≡ after ports effect n ⌝ }
+fn moved(ports: Ports, what: Reassembly, n: usize) -> Ports
+    requires { ⌜ Within (ports .lengths) what n ⌝ }
+    ensures { λ r. ⌜ r ≡ portsAfter ports what n ⌝ }
 {
-    match effect {
-        Effect::Nothing => ports,
-        Effect::Discard(slot, waits) => ports.drop_one(slot, waits),
-        Effect::Deliver(slot, _) => ports.drop_one(slot, false),
-        Effect::Append(slot, have) => {
-            let mut next = ports;
-            next.lengths[slot] = (have + n) as u16;
-            next
-        }
+    match what {
+        Reassembly::Ignored => ports,
+        Reassembly::Dropped(slot, waits) => ports.drop_one(slot, waits),
+        Reassembly::Delivered(slot, _) => ports.deliver(slot),
+        Reassembly::Appended(slot, have) => ports.append(slot, (have + n) as u16),
     }
 }
 
@@ -137,12 +133,12 @@ pub fn stretch_place(ports: Ports, own: PortId, payload: &[u8], k: usize) -> Str
                 return settle(seek, true);
             }
             Next::Frame(x) => {
-                let body = at + 8;
+                let body = at + XGEM_HEADER_BYTES;
                 let n = x.pli as usize;
                 let port = x.port;
-                let effect = fragments::effect_of(held, own, port, x.last, x.pli);
-                seek = seek_on(seek, effect, body, n);
-                held = moved(held, effect, n);
+                let what = fragments::reassembly_of(held, own, port, x.last, x.pli);
+                seek = seek_on(seek, what, body, n);
+                held = moved(held, what, n);
                 at = body + xgem::payload_size(x.pli);
             }
         }

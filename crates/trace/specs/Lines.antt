@@ -33,6 +33,10 @@ spaced [] = newline ∷ []
 spaced (n ∷ []) = field n newline
 spaced (n ∷ m ∷ l) = field n space ++ spaced (m ∷ l)
 
+-- six numbers of at most twenty digits, and what ends each
+abbrev pub mostLine : ℕ
+mostLine = 126
+
 -- "prints its number and `bad`"
 unfoldable pub badLine : ℕ → List ℕ
 badLine n = field n space ++ (98 ∷ 97 ∷ 100 ∷ newline ∷ [])

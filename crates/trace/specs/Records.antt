@@ -1,8 +1,8 @@
 -- "The program `trace` reads records of 1,024 bytes without a header: kind (0 lost, 1 frame), three zero bytes, 1,020 bytes
 -- of frame."
 -- Assumes nothing.
-use Prim.Native.Nat.{ℕ, zero, suc, _+_, _*_, _/_}
-use mathlib.Core.Bool.{Bool, _&&_, cond}
+use Prim.Native.Nat.{ℕ, zero, suc, _+_, _-_, _*_, _/_}
+use mathlib.Core.Bool.{_&&_, cond}
 use mathlib.Core.List.{List, [], _∷_}
 use lib.Dec.{eqb}
 use lib.ListN.{length, take, drop, getD}
@@ -15,6 +15,9 @@ recordBytes = 1024
 -- kind and three zero bytes
 abbrev pub headBytes : ℕ
 headBytes = 4
+
+abbrev pub frameBytes : ℕ
+frameBytes = recordBytes - headBytes
 
 -- "kind (0 lost, 1 frame)"; "Another kind" is bad
 abbrev pub kindBy : ℕ → Kind
@@ -47,4 +50,4 @@ left input = drop (wholes input * recordBytes) input
 
 -- the input's records; the last may be short
 unfoldable pub recordsOf : List ℕ → List (List ℕ)
-recordsOf input = records ((length input + 1023) / recordBytes) input
+recordsOf input = records ((length input + (recordBytes - 1)) / recordBytes) input

@@ -1,28 +1,32 @@
 -- The bench run: what each record prints and leaves, from power-on to the end of the input.
 -- Assumes nothing.
 use Prim.Native.Nat.{ℕ, _+_, _%_, _^_}
-use mathlib.Core.Bool.{Bool, true, false, cond}
+use mathlib.Core.Bool.{true, false, cond}
 use mathlib.Core.List.{List, [], _∷_, _++_}
 use lib.ListN.{length, take, replicate}
 use Rattle.station.specs.declared.Station.{Station}
 use Rattle.station.specs.Station.{powerOn}
+use Rattle.station.specs.declared.answers.Outcome.{Outcome}
+use Rattle.station.specs.Limits.{serialOctets, registrationOctets}
 use Rattle.station.specs.Answers.{answerNumber}
 use Rattle.station.specs.States.{stateNumber}
 use Rattle.payload.specs.Memory.{put}
-use Rattle.arrival.specs.declared.Outcome.{Outcome}
-use Rattle.arrival.specs.Lengths.{Lent}
-use Rattle.arrival.specs.Frame.{Left, frameLeft}
-use Rattle.engine.specs.Times.{lostLeft}
+use Rattle.payload.specs.Walk.{memoryBytes}
+use Rattle.plan.specs.Limits.{planNumbers}
+use Rattle.frame.specs.declared.Counts.{Counts}
+use Rattle.frame.specs.Given.{Lent, arriving, lending, replyOctets}
+use Rattle.frame.specs.Frame.{FrameLeft, noCounts, frameLeft}
+use Rattle.engine.specs.Lods.{lostLeft}
 use Rattle.trace.specs.declared.records.Kind.{Kind}
 use Rattle.trace.specs.declared.records.Kind.the-variants.{Lost, Frame, Bad}
 use Rattle.trace.specs.declared.records.Run.{Run}
 use Rattle.trace.specs.Lines.{spaced, badLine}
-use Rattle.trace.specs.Records.{kindOf, frameOf, recordsOf, wholeRecords, left}
+use Rattle.trace.specs.Records.{frameBytes, kindOf, frameOf, recordsOf, wholeRecords, left}
 
 -- "Line: record number, answer, state (O2-3 prints 2), plan records, replies, delivery bytes"
-abbrev pub lineOf : ℕ → Outcome → List ℕ
-lineOf number o =
-    spaced (number ∷ answerNumber (o .answer) ∷ stateNumber (o .station .activation) ∷ o .records ∷ o .replies ∷ o .bytes ∷ [])
+abbrev pub lineOf : ℕ → Outcome → Counts → List ℕ
+lineOf number o c =
+    spaced (number ∷ answerNumber (o .answer) ∷ stateNumber (o .station .activation) ∷ c .records ∷ c .replies ∷ c .bytes ∷ [])
 
 -- where a run stands, and what its frame calls are lent
 pub record At : Type 0 where
@@ -42,20 +46,16 @@ abbrev pub stop : Run → Run
 stop run = record { station = run .station; number = run .number; stopped = true }
 
 -- a record whose call left this
-abbrev pub stepTo : At → Left → Step
-stepTo p l = record { at = record { run = onward (p .run) (l .outcome .station); lent = l .lent }; line = lineOf (p .run .number) (l .outcome) }
+abbrev pub stepTo : At → FrameLeft → Step
+stepTo p l = record { at = record { run = onward (p .run) (l .outcome .station); lent = l .lent }; line = lineOf (p .run .number) (l .outcome) (l .counts) }
 
 -- a lost frame time writes nothing. "Kind 0 leaves its last 1,020 bytes unread"
-abbrev pub lostIn : At → Left
-lostIn p =
-    record {
-      outcome = record { answer = lostLeft (p .run .station) .answer; station = lostLeft (p .run .station) .station; records = 0; replies = 0; bytes = 0 };
-      lent = p .lent;
-    }
+abbrev pub lostIn : At → FrameLeft
+lostIn p = record { outcome = lostLeft (p .run .station); counts = noCounts; lent = p .lent }
 
 -- "random delay 0"
-abbrev pub frameIn : At → List ℕ → Left
-frameIn p x = frameLeft (p .run .station) (frameOf x) 0 (p .lent)
+abbrev pub frameIn : At → List ℕ → FrameLeft
+frameIn p x = frameLeft (p .run .station) (arriving (frameOf x) 0) (p .lent)
 
 abbrev pub stepBy : Kind → At → List ℕ → Step
 stepBy Lost p x = stepTo p (lostIn p)
@@ -77,7 +77,7 @@ linesOf p (x ∷ l) = step p x .line ++ linesOf (step p x .at) l
 
 -- "The station has a serial number and Registration ID of zero bytes, no added ports"
 abbrev pub start : Run
-start = record { station = powerOn (replicate 8 0) (replicate 36 0); number = 0; stopped = false }
+start = record { station = powerOn (replicate serialOctets 0) (replicate registrationOctets 0); number = 0; stopped = false }
 
 -- ---- lines put into a text
 
@@ -123,7 +123,7 @@ abbrev pub powered : At
 powered =
     record {
       run = start;
-      lent = record { memory = replicate 34816 0; plan = replicate 256 0; replies = replicate 192 0; deliveries = replicate 35836 0 };
+      lent = lending (replicate memoryBytes 0) (replicate planNumbers 0) (replicate replyOctets 0) (replicate (frameBytes + memoryBytes) 0);
     }
 
 -- all that the program prints of an input; "an end after a whole record prints nothing"

@@ -3,7 +3,9 @@ ghost use mathlib.Core.Path.{_≡_};
 ghost use Prim.Native.Nat.{_+_, _-_, _*_, _/_, _≤_};
 ghost use lib.ListN.{length, take, drop};
 ghost use Rattle.payload.specs.Memory.{put};
-ghost use Rattle.trace.specs.Records.{records};
+ghost use Rattle.frame.specs.Given.{lending};
+ghost use Rattle.trace.specs.Lines.{mostLine};
+ghost use Rattle.trace.specs.Records.{recordBytes, records};
 ghost use Rattle.trace.specs.Runs.{shown, turned};
 use super::records;
 use super::records::Printed;
@@ -16,7 +18,7 @@ pub struct Handled {
     pub written: usize,
 }
 
-// Records one after another, of which the input holds enough. A line has at most 126 bytes.
+// Records one after another, of which the input holds enough, and the text room for their lines.
 fn print_records(
     run: Run,
     input: &[u8],
@@ -27,8 +29,8 @@ fn print_records(
     deliveries: &mut [u8],
     text: &mut [u8],
 ) -> Printed
-    requires { ⌜ (1024 * count ≤ length (now input)) × (126 * count ≤ length (now text)) ⌝ }
-    ensures { λ r. ⌜ (record { at = record { run = r .run; lent = record { memory = now (memory .exit); plan = now (plan .exit); replies = now (replies .exit); deliveries = now (deliveries .exit) } }; text = now (text .exit); place = r .place } ≡ shown (record { run = run; lent = record { memory = now (memory .entry); plan = now (plan .entry); replies = now (replies .entry); deliveries = now (deliveries .entry) } }) (records count (now (input .entry))) (now (text .entry)) 0) × (r .place ≤ 126 * count) ⌝ }
+    requires { ⌜ (recordBytes * count ≤ length (now input)) × (mostLine * count ≤ length (now text)) ⌝ }
+    ensures { λ r. ⌜ (record { at = record { run = r .run; lent = lending (now (memory .exit)) (now (plan .exit)) (now (replies .exit)) (now (deliveries .exit)) }; text = now (text .exit); place = r .place } ≡ shown (record { run = run; lent = lending (now (memory .entry)) (now (plan .entry)) (now (replies .entry)) (now (deliveries .entry)) }) (records count (now (input .entry))) (now (text .entry)) 0) × (r .place ≤ mostLine * count) ⌝ }
 {
     let mut p = Printed { run: run, place: 0 };
     let mut i = 0;
@@ -75,8 +77,8 @@ pub(crate) fn turn(
     deliveries: &mut [u8],
     text: &mut [u8],
 ) -> Handled
-    requires { ⌜ (filled ≤ length (now input)) × (126 * (filled / 1024) ≤ length (now text)) ⌝ }
-    ensures { λ r. ⌜ (record { at = record { run = r .run; lent = record { memory = now (memory .exit); plan = now (plan .exit); replies = now (replies .exit); deliveries = now (deliveries .exit) } }; input = now (input .exit); kept = r .kept; text = now (text .exit); written = r .written } ≡ turned (record { run = run; lent = record { memory = now (memory .entry); plan = now (plan .entry); replies = now (replies .entry); deliveries = now (deliveries .entry) } }) (now (input .entry)) filled (now (text .entry))) × (r .kept ≤ 1023) × (r .written ≤ 126 * (filled / 1024)) ⌝ }
+    requires { ⌜ (filled ≤ length (now input)) × (mostLine * (filled / recordBytes) ≤ length (now text)) ⌝ }
+    ensures { λ r. ⌜ (record { at = record { run = r .run; lent = lending (now (memory .exit)) (now (plan .exit)) (now (replies .exit)) (now (deliveries .exit)) }; input = now (input .exit); kept = r .kept; text = now (text .exit); written = r .written } ≡ turned (record { run = run; lent = lending (now (memory .entry)) (now (plan .entry)) (now (replies .entry)) (now (deliveries .entry)) }) (now (input .entry)) filled (now (text .entry))) × (r .kept ≤ recordBytes - 1) × (r .written ≤ mostLine * (filled / recordBytes)) ⌝ }
 {
     let count = filled / records::RECORD;
     let used = count * records::RECORD;

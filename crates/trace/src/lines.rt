@@ -4,7 +4,7 @@ ghost use mathlib.Core.List.{_∷_, []};
 ghost use Prim.Native.Nat.{_+_, _≤_};
 ghost use lib.ListN.{length};
 ghost use Rattle.payload.specs.Memory.{put};
-ghost use Rattle.trace.specs.Lines.{decimal, field, spaced, badLine};
+ghost use Rattle.trace.specs.Lines.{mostLine, decimal, field, spaced, badLine};
 
 const SPACE: u8 = 32;
 
@@ -56,8 +56,8 @@ pub(crate) fn put_line(
     text: &mut [u8],
     at: usize,
 ) -> usize
-    requires { ⌜ at + 126 ≤ length (now text) ⌝ }
-    ensures { λ r. ⌜ (now (text .exit) ≡ put (now (text .entry)) at (spaced (number ∷ answer ∷ state ∷ records ∷ replies ∷ bytes ∷ []))) × (r ≡ at + length (spaced (number ∷ answer ∷ state ∷ records ∷ replies ∷ bytes ∷ []))) × (r ≤ at + 126) ⌝ }
+    requires { ⌜ at + mostLine ≤ length (now text) ⌝ }
+    ensures { λ r. ⌜ (now (text .exit) ≡ put (now (text .entry)) at (spaced (number ∷ answer ∷ state ∷ records ∷ replies ∷ bytes ∷ []))) × (r ≡ at + length (spaced (number ∷ answer ∷ state ∷ records ∷ replies ∷ bytes ∷ []))) × (r ≤ at + mostLine) ⌝ }
 {
     let b = put_field(number, SPACE, text, at);
     let c = put_field(answer, SPACE, text, b);
@@ -69,8 +69,8 @@ pub(crate) fn put_line(
 
 // The line of a record that is bad.
 pub(crate) fn put_bad(number: u64, text: &mut [u8], at: usize) -> usize
-    requires { ⌜ at + 126 ≤ length (now text) ⌝ }
-    ensures { λ r. ⌜ (now (text .exit) ≡ put (now (text .entry)) at (badLine number)) × (r ≡ at + length (badLine number)) × (r ≤ at + 126) ⌝ }
+    requires { ⌜ at + mostLine ≤ length (now text) ⌝ }
+    ensures { λ r. ⌜ (now (text .exit) ≡ put (now (text .entry)) at (badLine number)) × (r ≡ at + length (badLine number)) × (r ≤ at + mostLine) ⌝ }
 {
     let b = put_field(number, SPACE, text, at);
     text[b] = b'b';

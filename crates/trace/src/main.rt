@@ -5,10 +5,19 @@ mod records;
 
 ghost use Prim.Native.Nat.{_≤_};
 ghost use lib.ListN.{length};
+ghost use Rattle.trace.specs.Lines.{mostLine};
 ghost use Rattle.trace.specs.Reads.{Within};
 use libc::STDIN_FILENO;
 use libc::STDOUT_FILENO;
 use records::Run;
+
+// A read brings up to 64 KB.
+const INPUT: usize = 65536;
+
+// The lines of as many records as the input holds, and room to spare.
+const TEXT: usize = 8192;
+
+const DELIVERIES: usize = records::FRAME + payload::MEMORY_BYTES;
 
 // What a read has brought: the input is filled up to a place, or has ended, or cannot be read.
 enum Got {
@@ -51,7 +60,7 @@ fn write_out(text: &[u8], n: usize) -> bool
 
 // The input has ended: what was kept is a record that is too short, and so a bad one.
 fn finish(run: Run, kept: usize, text: &mut [u8])
-    requires { ⌜ 126 ≤ length (now text) ⌝ }
+    requires { ⌜ mostLine ≤ length (now text) ⌝ }
 {
     if kept == 0 {
         return;
@@ -63,12 +72,12 @@ fn finish(run: Run, kept: usize, text: &mut [u8])
 // A proved loop has to end, and nothing says that the input does: the turns are counted down from a number that no run
 // uses up.
 fn main() {
-    let mut input = [0u8; 65536];
-    let mut memory = [0u8; 34816];
-    let mut plan = [0u16; 256];
-    let mut replies = [0u8; 192];
-    let mut deliveries = [0u8; 35836];
-    let mut text = [0u8; 8192];
+    let mut input = [0u8; INPUT];
+    let mut memory = [0u8; payload::MEMORY_BYTES];
+    let mut plan = [0u16; plan::PLAN_NUMBERS];
+    let mut replies = [0u8; frame::given::REPLY_OCTETS];
+    let mut deliveries = [0u8; DELIVERIES];
+    let mut text = [0u8; TEXT];
     let mut run = records::start();
     let mut kept = 0;
     let mut turns = u64::MAX;

@@ -3,9 +3,12 @@ ghost use mathlib.Core.Path.{_≡_};
 ghost use Prim.Native.Nat.{_+_, _≤_};
 ghost use lib.ListN.{length};
 ghost use Rattle.payload.specs.Memory.{put};
+ghost use Rattle.frame.specs.Given.{lending};
+ghost use Rattle.trace.specs.Lines.{mostLine};
 ghost use Rattle.trace.specs.Records.{kindOf};
 ghost use Rattle.trace.specs.Runs.{start, onward, stop, lineOf, step, shownBy};
 use super::lines;
+use engine::Counts;
 use engine::Outcome;
 use station::Station;
 
@@ -13,6 +16,8 @@ pub(crate) const RECORD: usize = 1024;
 
 // Kind and three zero bytes; the frame stands behind them.
 const HEAD: usize = 4;
+
+pub(crate) const FRAME: usize = RECORD - HEAD;
 
 pub enum Kind {
     Lost,
@@ -100,9 +105,9 @@ fn long(x: usize) -> u64
 }
 
 // The line of what a record's call has answered; the run goes on.
-fn print_outcome(run: Run, o: Outcome, text: &mut [u8], place: usize) -> Printed
-    requires { ⌜ place + 126 ≤ length (now text) ⌝ }
-    ensures { λ r. ⌜ (r .run ≡ onward run (o .station)) × (now (text .exit) ≡ put (now (text .entry)) place (lineOf (run .number) o)) × (r .place ≡ place + length (lineOf (run .number) o)) × (r .place ≤ place + 126) ⌝ }
+fn print_outcome(run: Run, o: Outcome, c: Counts, text: &mut [u8], place: usize) -> Printed
+    requires { ⌜ place + mostLine ≤ length (now text) ⌝ }
+    ensures { λ r. ⌜ (r .run ≡ onward run (o .station)) × (now (text .exit) ≡ put (now (text .entry)) place (lineOf (run .number) o c)) × (r .place ≡ place + length (lineOf (run .number) o c)) × (r .place ≤ place + mostLine) ⌝ }
 {
     let answer = o.answer;
     let station = o.station;
@@ -111,9 +116,9 @@ fn print_outcome(run: Run, o: Outcome, text: &mut [u8], place: usize) -> Printed
         run.number,
         wide(answer.number()),
         wide(state.number()),
-        long(o.records),
-        long(o.replies),
-        long(o.bytes),
+        long(c.records),
+        long(c.replies),
+        long(c.bytes),
         text,
         place,
     );
@@ -134,8 +139,8 @@ pub(crate) fn print_record(
     text: &mut [u8],
     place: usize,
 ) -> Printed
-    requires { ⌜ place + 126 ≤ length (now text) ⌝ }
-    ensures { λ r. ⌜ (record { at = record { run = r .run; lent = record { memory = now (memory .exit); plan = now (plan .exit); replies = now (replies .exit); deliveries = now (deliveries .exit) } }; text = now (text .exit); place = r .place } ≡ shownBy (step (record { run = run; lent = record { memory = now (memory .entry); plan = now (plan .entry); replies = now (replies .entry); deliveries = now (deliveries .entry) } }) (now (octets .entry))) (now (text .entry)) place) × (r .place ≤ place + 126) ⌝ }
+    requires { ⌜ place + mostLine ≤ length (now text) ⌝ }
+    ensures { λ r. ⌜ (record { at = record { run = r .run; lent = lending (now (memory .exit)) (now (plan .exit)) (now (replies .exit)) (now (deliveries .exit)) }; text = now (text .exit); place = r .place } ≡ shownBy (step (record { run = run; lent = lending (now (memory .entry)) (now (plan .entry)) (now (replies .entry)) (now (deliveries .entry)) }) (now (octets .entry))) (now (text .entry)) place) × (r .place ≤ place + mostLine) ⌝ }
 {
     if run.stopped {
         return Printed {
@@ -147,24 +152,13 @@ pub(crate) fn print_record(
     match kind_of(octets) {
         Kind::Lost => {
             let o = engine::lost(s);
-            let answer = o.answer;
-            let station = o.station;
-            print_outcome(
-                run,
-                Outcome {
-                    answer: answer,
-                    station: station,
-                    records: 0,
-                    replies: 0,
-                    bytes: 0,
-                },
-                text,
-                place,
-            )
+            print_outcome(run, o, Counts::none(), text, place)
         }
         Kind::Frame => {
-            let o = engine::frame(s, memory, &octets[HEAD..], 0, plan, replies, deliveries);
-            print_outcome(run, o, text, place)
+            let r = engine::frame(s, memory, &octets[HEAD..], 0, plan, replies, deliveries);
+            let o = r.outcome;
+            let c = r.counts;
+            print_outcome(run, o, c, text, place)
         }
         Kind::Bad => {
             let next = lines::put_bad(run.number, text, place);

@@ -5,13 +5,13 @@ use ids::OnuId;
 use integrity::Direction;
 use libc::STDOUT_FILENO;
 use ploam::AllocChange;
+use ploam::Completion;
 use ploam::Content;
 use ploam::Message;
 use ploam::Received;
 use ploam::SerialNumber;
-use upstream::Completion;
-use upstream::UpstreamMessage;
-use upstream::Written;
+use ploamu::UpstreamMessage;
+use ploamu::Written;
 
 fn text(s: &[u8]) {
     io::write_all(STDOUT_FILENO, s);
@@ -267,7 +267,7 @@ fn omci_message() {
 fn written(name: &[u8], usual: Prepared, installed: Prepared, message: UpstreamMessage) {
     let id = *b"0123456789abcdefghijklmnopqrstuvwxyz";
     let mut target = [0u8; 48];
-    match upstream::writing::write(usual, installed, message, id, &mut target) {
+    match ploamu::writing::write(usual, installed, message, id, &mut target) {
         Written::Done => line(name, &target),
         Written::Unfit => text(b"unfit\n"),
     }

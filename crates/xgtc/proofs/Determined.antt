@@ -2,8 +2,8 @@
 -- writers this is `write-once` of framing; the contracts of `of` are an equation of the result itself.)
 -- Assumes nothing.
 use mathlib.Core.Path.{_≡_, refl}
-use Rattle.framing.specs.Reads.{Found, fields, unreadable, short}
-use Rattle.framing.proofs.Determined.{told-once}
+use Rattle.xgem.specs.Reads.{Found, fields, unreadable, short}
+use Rattle.xgem.proofs.Determined.{told-once}
 use Rattle.xgtc.specs.Reads.{foundHlend, foundAllocation}
 use Rattle.xgtc.specs.declared.hlend.Hlend.{Hlend}
 use Rattle.xgtc.specs.declared.hlend.HlendRead.{HlendRead}

@@ -11,8 +11,8 @@ use Rattle.bch.specs.Code.{TrueWord}
 use Rattle.hec.specs.Writes.{Written, protected}
 use Rattle.bch.proofs.Both.{and-right}
 use Rattle.hec.proofs.Protected.{protected-written, is-protected}
-use Rattle.framing.specs.Layouts.{field, bit, behind}
-use Rattle.framing.proofs.Layouts.{bit-le, flag-bit, bit-flag, within, next}
+use Rattle.xgem.specs.Layouts.{field, bit, behind}
+use Rattle.xgem.proofs.Layouts.{bit-le, flag-bit, bit-flag, within, next}
 use Rattle.xgtc.specs.Layouts.{hlendOf, hlendFits, hlendWord, allocationOf, allocationFits, allocationBits, allocationWord}
 use Rattle.xgtc.specs.declared.hlend.Hlend.{Hlend}
 use Rattle.xgtc.specs.declared.allocation.Allocation.{Allocation}

@@ -8,11 +8,11 @@ use Prim.Native.Nat.{ℕ, _≤_}
 use native.Mathlib.Omega.{arith}
 use lib.ListN.{length, take, drop}
 use Rattle.bch.specs.Code.{TrueWord, distance}
-use Rattle.framing.specs.Octets.{value, octets}
-use Rattle.framing.specs.Reads.{fields}
-use Rattle.framing.specs.declared.octets.Written.the-variants.{Done}
-use Rattle.framing.proofs.Numbers.{Bytes}
-use Rattle.framing.proofs.RoundTrips.{flipped, clean, again, stands, wrote-done, same-fields}
+use Rattle.octets.specs.Octets.{value, octets}
+use Rattle.xgem.specs.Reads.{fields}
+use Rattle.xgem.specs.declared.words.Written.the-variants.{Done}
+use Rattle.octets.proofs.Numbers.{Bytes}
+use Rattle.xgem.proofs.RoundTrips.{flipped, clean, again, stands, wrote-done, same-fields}
 use Rattle.xgtc.specs.Layouts.{hlendOf, hlendFits, hlendWord, allocationOf, allocationFits, allocationWord}
 use Rattle.xgtc.specs.Reads.{readHlend, readAllocation}
 use Rattle.xgtc.specs.Writes.{writeHlend, writeAllocation}

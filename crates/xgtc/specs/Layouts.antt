@@ -6,7 +6,7 @@ use Prim.Native.Nat.{ℕ, _^_}
 use lib.Dec.{ltb}
 use Rattle.ids.specs.declared.AllocId.{AllocId}
 use Rattle.hec.specs.Writes.{protected}
-use Rattle.framing.specs.Layouts.{field, flag, behind, bit}
+use Rattle.xgem.specs.Layouts.{field, flag, behind, bit}
 use Rattle.xgtc.specs.declared.hlend.Hlend.{Hlend}
 use Rattle.xgtc.specs.declared.allocation.Allocation.{Allocation}
 

@@ -3,7 +3,7 @@
 use mathlib.Core.List.{List}
 use Prim.Native.Nat.{ℕ}
 use Rattle.hec.specs.Reads.{reading}
-use Rattle.framing.specs.Reads.{Found, fields, unreadable, short, readAs}
+use Rattle.xgem.specs.Reads.{Found, fields, unreadable, short, readAs}
 use Rattle.xgtc.specs.Layouts.{hlendOf, allocationOf}
 use Rattle.xgtc.specs.declared.hlend.Hlend.{Hlend}
 use Rattle.xgtc.specs.declared.hlend.HlendRead.{HlendRead}

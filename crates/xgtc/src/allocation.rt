@@ -1,13 +1,13 @@
 // The allocation structure: one entry of the bandwidth map (clause 8.1.2).
-use framing::Written;
-use framing::octets;
 use hec::Reading64;
 use hec::Word64;
 use ids::AllocId;
+use xgem::Written;
+use xgem::words;
 ghost use mathlib.Core.Path.{_≡_};
 ghost use Rattle.hec.specs.Reads.{found64};
 ghost use Rattle.xgtc.specs.Layouts.{allocationOf, allocationFits, allocationBits};
-ghost use Rattle.framing.specs.Reads.{taken};
+ghost use Rattle.xgem.specs.Reads.{taken};
 ghost use Rattle.xgtc.specs.Reads.{readAllocation, foundAllocation};
 ghost use Rattle.xgtc.specs.Writes.{writeAllocation};
 
@@ -57,9 +57,9 @@ impl Allocation {
         ensures { λ r. ⌜ r ≡ allocationBits self ⌝ }
     {
         let alloc = self.alloc;
-        let marks = (alloc.0 as u64 * 2 + octets::bit(self.dbru)) * 2 + octets::bit(self.ploamu);
+        let marks = (alloc.0 as u64 * 2 + words::bit(self.dbru)) * 2 + words::bit(self.ploamu);
         let times = (marks * 0x1_0000 + self.start as u64) * 0x1_0000 + self.grant as u64;
-        (times * 2 + octets::bit(self.fwi)) * 4 + self.profile as u64
+        (times * 2 + words::bit(self.fwi)) * 4 + self.profile as u64
     }
 }
 
@@ -79,12 +79,12 @@ pub fn read_allocation(s: &[u8]) -> AllocationRead
     if s.len() < 8 {
         return AllocationRead::Short;
     }
-    found(hec::read64(octets::word_ahead(s)))
+    found(hec::read64(words::word_ahead(s)))
 }
 
 // The allocation structure of the fields given, at the start of a target.
 pub fn write_allocation(a: Allocation, target: &mut [u8]) -> Written
     ensures { λ r. ⌜ record { answer = r; target = now (target .exit) } ≡ writeAllocation a (now (target .entry)) ⌝ }
 {
-    octets::write64(a.fits(), a.data_bits(), target)
+    words::write64(a.fits(), a.data_bits(), target)
 }

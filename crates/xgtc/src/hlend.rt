@@ -1,13 +1,13 @@
 // HLend: how many allocation structures and PLOAM messages stand in front of the payload (clause 8.1.1).
-use super::octets;
-use framing::Written;
+use super::words;
 use hec::Reading32;
 use hec::Word32;
+use xgem::Written;
 ghost use mathlib.Core.Path.{_≡_};
 ghost use Rattle.hec.specs.Reads.{found32};
-ghost use Rattle.framing.specs.Layouts.{behind};
+ghost use Rattle.xgem.specs.Layouts.{behind};
 ghost use Rattle.xgtc.specs.Layouts.{hlendOf, hlendFits};
-ghost use Rattle.framing.specs.Reads.{taken};
+ghost use Rattle.xgem.specs.Reads.{taken};
 ghost use Rattle.xgtc.specs.Reads.{readHlend, foundHlend};
 ghost use Rattle.xgtc.specs.Writes.{writeHlend};
 
@@ -53,7 +53,7 @@ pub fn read_hlend(s: &[u8]) -> HlendRead
     if s.len() < 4 {
         return HlendRead::Short;
     }
-    found(hec::read32(octets::word32(s)))
+    found(hec::read32(words::word32(s)))
 }
 
 // HLend of the fields given, at the start of a target.
@@ -61,5 +61,5 @@ pub fn write_hlend(h: Hlend, target: &mut [u8]) -> Written
     ensures { λ r. ⌜ record { answer = r; target = now (target .exit) } ≡ writeHlend h (now (target .entry)) ⌝ }
 {
     let fits = h.bwmap < 0x800;
-    octets::write32(fits, h.bwmap as u32 * 0x100 + h.ploam as u32, target)
+    words::write32(fits, h.bwmap as u32 * 0x100 + h.ploam as u32, target)
 }

@@ -2,4 +2,4 @@
 // the allocation structure (8.1.2). Fields are read from a true word alone, and both structures can be written.
 pub mod allocation;
 pub mod hlend;
-mod octets;
+mod words;

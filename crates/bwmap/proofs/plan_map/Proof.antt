@@ -23,7 +23,7 @@ carried-over-requires c κs = search needs
 
 returns-2 : tie.Need-returns-2
 returns-2 c =
-    let a = (c .before .before .before .before .before .before .before) .args in
+    let a = c .before .before .before .before .before .before .before .args in
     rw (le-leb _ _ (c .before .before .before .before .if1 .left))
     (silent-plan (a .own) (now (a .map)) (now (a .plan)) (a .carried) (c .before .long .result) (c .carried-over .result) (sym (c .before .before .before .is-silent .ensures) ∙ c .before .before .if2 .taken) (c .before .long .ensures .0) (c .carried-over .ensures))
 
@@ -38,9 +38,9 @@ same-length c = search needs
 
 returns-3 : tie.Need-returns-3
 returns-3 c =
-    let a = (c .before .before .before .before .before .before .before .before .before .before) .args in
-    rw (le-leb _ _ (c .before .before .before .before .before .before .before .if1 .left))
-    (finish (now (a .plan)) _ (c .before .before .before .walk-map .result) (a .carried) (c .carried-over2 .result) (plannedOf (a .own) (now (a .map)) (a .carried)) (c .before .before .before .walk-map .ensures .0) (c .before .before .before .before .before .before .before .if1 .left) (c .before .before .before .walk-map .ensures .1 ∙ from-start (a .own) (now (a .map)) (now (a .plan)) (a .carried)) (c .carried-over2 .ensures))
+    let a = c .before .before .before .before .before .before .before .before .before .before .before .args in
+    rw (le-leb _ _ (c .before .before .before .before .before .before .before .before .if1 .left))
+    (finish (now (a .plan)) _ (c .before .before .before .before .walk-map .result) (a .carried) (c .carried-over2 .result) (plannedOf (a .own) (now (a .map)) (a .carried)) (c .before .before .before .before .walk-map .ensures .0) (c .before .before .before .before .before .before .before .before .if1 .left) (c .before .before .before .before .walk-map .ensures .1 ∙ from-start (a .own) (now (a .map)) (now (a .plan)) (a .carried)) (c .carried-over2 .ensures))
 
 pub plan-map-spec : {M : Type 1} → statement M
 plan-map-spec =

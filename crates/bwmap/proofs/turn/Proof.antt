@@ -16,17 +16,17 @@ enum-known-next c = search needs
 
 sub-at : tie.Need-sub-at
 sub-at c =
-    let a = c .before .before .before .before .before .before .before .args in
+    let a = c .before .before .before .before .before .before .before .before .args in
     omega (arith, sizes (a .own) (now (a .map)) (now (a .plan)) (a .w) _ _ (rw (c .before .before .next .given .1) at (c .before .before .before .before .next-planned .ensures)))
 
 sub-more : tie.Need-sub-more
 sub-more c =
-    let a = c .before .before .before .before .before .before .before .before .args in
+    let a = c .before .before .before .before .before .before .before .before .before .args in
     omega (arith, sizes (a .own) (now (a .map)) (now (a .plan)) (a .w) _ _ (rw (c .before .before .before .next .given .1) at (c .before .before .before .before .before .next-planned .ensures)))
 
 allocation-at-requires : tie.Need-allocation-at-requires
 allocation-at-requires c κs =
-    let a = c .before .before .before .before .before .before .before .before .args in
+    let a = c .before .before .before .before .before .before .before .before .before .args in
     omega (arith, sizes (a .own) (now (a .map)) (now (a .plan)) (a .w) _ _ (rw (c .before .before .before .next .given .1) at (c .before .before .before .before .before .next-planned .ensures)))
 
 mul-place : tie.Need-mul-place
@@ -34,39 +34,39 @@ mul-place c = search needs
 
 add-write-series : tie.Need-add-write-series
 add-write-series c =
-    let a = c .before .before .before .before .before .before .before .before .before .before .args in
+    let a = c .before .before .before .before .before .before .before .before .before .before .before .args in
     omega (arith, sizes (a .own) (now (a .map)) (now (a .plan)) (a .w) _ _ (rw (c .before .before .before .before .before .next .given .1) at (c .before .before .before .before .before .before .before .next-planned .ensures)))
 
 write-series-requires : tie.Need-write-series-requires
 write-series-requires c κs =
-    let a = c .before .before .before .before .before .before .before .before .before .before .before .args in
+    let a = c .before .before .before .before .before .before .before .before .before .before .before .before .args in
     let t = sizes (a .own) (now (a .map)) (now (a .plan)) (a .w) _ _ (rw (c .before .before .before .before .before .before .next .given .1) at (c .before .before .before .before .before .before .before .before .next-planned .ensures)) in
-    (omega (arith, t), omega (arith, t, c .before .before .before .before .before .before .before .before .before .before .before .pre .1, c .before .before .before .before .before .before .before .before .before .before .before .pre .2 .room))
+    (omega (arith, t), omega (arith, t, c .before .before .before .before .before .before .before .before .before .before .before .before .pre .1, c .before .before .before .before .before .before .before .before .before .before .before .before .pre .2 .room))
 
 add-t15 : tie.Need-add-t15
 add-t15 c = search needs
 
 add-t18 : tie.Need-add-t18
 add-t18 c =
-    let a = c .before .before .before .before .before .before .before .before .before .before .before .before .before .before .before .args in
-    omega (arith, sizes (a .own) (now (a .map)) (now (a .plan)) (a .w) _ _ (rw (c .before .before .before .before .before .before .before .before .before .before .next .given .1) at (c .before .before .before .before .before .before .before .before .before .before .before .before .next-planned .ensures)), c .before .before .before .before .before .before .before .before .before .before .before .before .before .before .before .pre .2 .room)
-
-add-t19 : tie.Need-add-t19
-add-t19 c =
     let a = c .before .before .before .before .before .before .before .before .before .before .before .before .before .before .before .before .args in
-    omega (arith, sizes (a .own) (now (a .map)) (now (a .plan)) (a .w) _ _ (rw (c .before .before .before .before .before .before .before .before .before .before .before .next .given .1) at (c .before .before .before .before .before .before .before .before .before .before .before .before .before .next-planned .ensures)))
+    omega (arith, sizes (a .own) (now (a .map)) (now (a .plan)) (a .w) _ _ (rw (c .before .before .before .before .before .before .before .before .before .before .next .given .1) at (c .before .before .before .before .before .before .before .before .before .before .before .before .next-planned .ensures)), c .before .before .before .before .before .before .before .before .before .before .before .before .before .before .before .before .pre .2 .room)
 
 mark-requires : tie.Need-mark-requires
 mark-requires c κs = search needs
 
+add-t20 : tie.Need-add-t20
+add-t20 c =
+    let a = c .before .before .before .before .before .before .before .before .before .before .before .before .before .before .before .before .before .before .args in
+    omega (arith, sizes (a .own) (now (a .map)) (now (a .plan)) (a .w) _ _ (rw (c .before .before .before .before .before .before .before .before .before .before .before .before .next .given .1) at (c .before .before .before .before .before .before .before .before .before .before .before .before .before .before .next-planned .ensures)), c .before .before .before .before .before .before .before .before .before .before .before .before .before .before .before .before .before .before .pre .2 .sent, c .before .mark .ensures .1)
+
 add-t21 : tie.Need-add-t21
 add-t21 c =
-    let a = c .before .before .before .before .before .before .before .before .before .before .before .before .before .before .before .before .before .before .args in
-    omega (arith, sizes (a .own) (now (a .map)) (now (a .plan)) (a .w) _ _ (rw (c .before .before .before .before .before .before .before .before .before .before .before .before .before .next .given .1) at (c .before .before .before .before .before .before .before .before .before .before .before .before .before .before .before .next-planned .ensures)), c .before .before .before .before .before .before .before .before .before .before .before .before .before .before .before .before .before .before .pre .2 .sent, c .before .mark .ensures .1)
+    let a = c .before .before .before .before .before .before .before .before .before .before .before .before .before .before .before .before .before .before .before .args in
+    omega (arith, sizes (a .own) (now (a .map)) (now (a .plan)) (a .w) _ _ (rw (c .before .before .before .before .before .before .before .before .before .before .before .before .before .next .given .1) at (c .before .before .before .before .before .before .before .before .before .before .before .before .before .before .before .next-planned .ensures)))
 
 add-t22 : tie.Need-add-t22
 add-t22 c =
-    let a = c .before .before .before .before .before .before .before .before .before .before .before .before .before .before .before .before .before .before .before .args in
+    let a = c .before .before .before .before .before .before .before .before .before .before .before .before .before .before .before .before .before .before .before .before .args in
     omega (arith, sizes (a .own) (now (a .map)) (now (a .plan)) (a .w) _ _ (rw (c .before .before .before .before .before .before .before .before .before .before .before .before .before .before .next .given .1) at (c .before .before .before .before .before .before .before .before .before .before .before .before .before .before .before .before .next-planned .ensures)))
 
 enum-told : tie.Need-enum-told
@@ -77,18 +77,18 @@ same-length c = search needs
 
 returns : tie.Need-returns
 returns c =
-    let a = c .before .before .before .before .before .before .before .before .before .before .before .before .before .before .before .before .before .before .before .args in
-    let s = c .before .before .before .before .before .before .before .before .before .before .before .before .before .before .before .before .before .before .before .pre .2 in
+    let a = c .before .before .before .before .before .before .before .before .before .before .before .before .before .before .before .before .before .before .before .before .args in
+    let s = c .before .before .before .before .before .before .before .before .before .before .before .before .before .before .before .before .before .before .before .before .pre .2 in
     let d = rw (c .before .before .before .before .before .before .before .before .before .before .before .before .before .before .next .given .1) at (c .before .before .before .before .before .before .before .before .before .before .before .before .before .before .before .before .next-planned .ensures) in
     let t = sizes (a .own) (now (a .map)) (now (a .plan)) (a .w) _ _ d in
-    (record { few = omega (arith, t); room = omega (arith, t, s .room); sent = omega (arith, s .sent, c .before .before .mark .ensures .1); low = omega (arith, t) }, t .3, t .4, plan-next (a .own) (now (a .map)) (now (a .plan)) (a .w) _ _ d (c .before .before .before .before .before .before .before .before .before .before .allocation-at .result) (c .before .before .before .before .before .before .before .before .before .before .allocation-at .ensures) _ _ (c .before .before .before .before .before .before .before .write-series .ensures) (c .before .before .mark .ensures .0))
+    (record { few = omega (arith, t); room = omega (arith, t, s .room); sent = omega (arith, s .sent, c .before .before .before .mark .ensures .1); low = omega (arith, t) }, t .3, t .4, plan-next (a .own) (now (a .map)) (now (a .plan)) (a .w) _ _ d (c .before .before .before .before .before .before .before .before .before .before .allocation-at .result) (c .before .before .before .before .before .before .before .before .before .before .allocation-at .ensures) _ _ (c .before .before .before .before .before .before .before .write-series .ensures) (c .before .before .before .mark .ensures .0))
 
 returns-2 : tie.Need-returns-2
 returns-2 c =
-    let a = c .before .before .before .before .before .args in
-    let s = c .before .before .before .before .before .pre .2 in
+    let a = c .before .before .before .before .before .before .args in
+    let s = c .before .before .before .before .before .before .pre .2 in
     let n = rw (c .enum-told .given .1) at (c .before .before .next-planned .ensures) in
-    (record { few = s .few; room = s .room; sent = s .sent; low = omega (arith, s .low) }, c .before .before .before .before .before .pre .0, omega arith, move-past (a .own) (now (a .map)) (now (a .plan)) (a .w) n)
+    (record { few = s .few; room = s .room; sent = s .sent; low = omega (arith, s .low) }, c .before .before .before .before .before .before .pre .0, omega arith, move-past (a .own) (now (a .map)) (now (a .plan)) (a .w) n)
 
 pub turn-spec : {M : Type 1} → statement M
 turn-spec =
@@ -104,8 +104,8 @@ turn-spec =
     write-series-requires
     add-t15
     add-t18
-    add-t19
     mark-requires
+    add-t20
     add-t21
     add-t22
     enum-told

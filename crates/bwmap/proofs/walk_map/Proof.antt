@@ -25,19 +25,19 @@ loop-holds : tie.Need-loop-holds Inv-loop μ-loop
 loop-holds c = (record { few = search needs; room = search needs; sent = search needs; low = omega (arith, c .long .ensures) }, refl, ap (λ (e : ℕ). toCome (c .before .before .before .args .own) (now (c .before .before .before .args .map)) (now (c .before .before .before .args .plan)) (starting e)) (c .long .ensures .0))
 
 same-length : tie.Need-same-length Inv-loop μ-loop
-same-length c = c .before .before .before .before .loop .inv .1
+same-length c = c .before .before .before .before .before .loop .inv .1
 
 returns : tie.Need-returns Inv-loop μ-loop
-returns c = (c .before .before .before .before .loop .inv .0, walk-full (c .before .before .before .before .before .before .before .before .args .own) (now (c .before .before .before .before .before .before .before .before .args .map)) (c .before .before .before .before .loop .plan) (c .before .before .before .before .loop .w) (c .if2 .taken) ∙ c .before .before .before .before .loop .inv .2)
+returns c = (c .before .before .before .before .before .loop .inv .0, walk-full (c .before .before .before .before .before .before .before .before .before .args .own) (now (c .before .before .before .before .before .before .before .before .before .args .map)) (c .before .before .before .before .before .loop .plan) (c .before .before .before .before .before .loop .w) (c .if2 .taken) ∙ c .before .before .before .before .before .loop .inv .2)
 
 turn-requires : tie.Need-turn-requires Inv-loop μ-loop
-turn-requires c κs = (c .before .before .before .if1 .taken, omega (arith, c .before .before .before .before .before .before .before .before .before .pre, c .before .before .before .before .before .loop .inv .1), c .before .before .before .before .before .loop .inv .0)
+turn-requires c κs = (c .before .before .before .before .if1 .taken, omega (arith, c .before .before .before .before .before .before .before .before .before .before .pre, c .before .before .before .before .before .before .loop .inv .1), c .before .before .before .before .before .before .loop .inv .0)
 
 loop-less : tie.Need-loop-less Inv-loop μ-loop
 loop-less c = omega (arith, c .before .before .turn .ensures .1, c .before .before .turn .ensures .2)
 
 loop-again : tie.Need-loop-again Inv-loop μ-loop
-loop-again c = (c .before .before .turn .ensures .0, c .before .before .turn .kept .1 .1 .1 .0 ∙ c .before .before .before .before .before .before .before .before .loop .inv .1, c .before .before .turn .ensures .3 ∙ c .before .before .before .before .before .before .before .before .loop .inv .2)
+loop-again c = (c .before .before .turn .ensures .0, c .before .before .turn .kept .1 .1 .1 .0 ∙ c .before .before .before .before .before .before .before .before .before .loop .inv .1, c .before .before .turn .ensures .3 ∙ c .before .before .before .before .before .before .before .before .before .loop .inv .2)
 
 same-length-2 : tie.Need-same-length-2 Inv-loop μ-loop
 same-length-2 c = c .before .before .loop .inv .1

@@ -17,8 +17,8 @@ ignored-requires c κs = search needs
 enum-known-content : tie.Need-enum-known-content
 enum-known-content c = search needs
 
-own-serial-requires : tie.Need-own-serial-requires
-own-serial-requires c κs = search needs
+serial-number-requires : tie.Need-serial-number-requires
+serial-number-requires c κs = search needs
 
 same-serial-requires : tie.Need-same-serial-requires
 same-serial-requires c κs = search needs
@@ -41,8 +41,8 @@ deactivate-requires c κs = search needs
 enum-known-content-3 : tie.Need-enum-known-content-3
 enum-known-content-3 c = search needs
 
-own-serial-requires-2 : tie.Need-own-serial-requires-2
-own-serial-requires-2 c κs = search needs
+serial-number-requires-2 : tie.Need-serial-number-requires-2
+serial-number-requires-2 c κs = search needs
 
 same-serial-requires-2 : tie.Need-same-serial-requires-2
 same-serial-requires-2 c κs = search needs
@@ -84,7 +84,7 @@ returns : tie.Need-returns
 returns c = rw (c .before .enum-told .given .1) (c .ignored .ensures)
 
 returns-2 : tie.Need-returns-2
-returns-2 c = rw (c .before .before .before .before .content .given .1) (c .assign-onu-id .ensures ∙ rw (c .before .before .before .before .before .before .before .before .before .number .ensures, c .before .same-serial .ensures, c .before .before .own-serial .ensures))
+returns-2 c = rw (c .before .before .before .before .content .given .1) (c .assign-onu-id .ensures ∙ rw (c .before .before .before .before .before .before .before .before .before .number .ensures, c .before .same-serial .ensures, c .before .before .serial-number .ensures))
 
 returns-3 : tie.Need-returns-3
 returns-3 c = rw (c .before .before .content2 .given .1) (c .ranging-time .ensures ∙ rw (c .before .before .before .before .before .before .before .number .ensures))
@@ -93,7 +93,7 @@ returns-4 : tie.Need-returns-4
 returns-4 c = rw (c .before .enum-told2 .given .1) (c .deactivate .ensures)
 
 returns-5 : tie.Need-returns-5
-returns-5 c = rw (c .before .before .before .before .content3 .given .1) (c .disable .ensures ∙ rw (c .before .same-serial2 .ensures, c .before .before .own-serial2 .ensures))
+returns-5 c = rw (c .before .before .before .before .content3 .given .1) (c .disable .ensures ∙ rw (c .before .same-serial2 .ensures, c .before .before .serial-number2 .ensures))
 
 returns-6 : tie.Need-returns-6
 returns-6 c = rw (c .before .enum-told3 .given .1) (c .request-registration .ensures ∙ rw (c .before .before .before .before .before .before .number .ensures))
@@ -118,7 +118,7 @@ by-content-spec =
     enum-told
     ignored-requires
     enum-known-content
-    own-serial-requires
+    serial-number-requires
     same-serial-requires
     assign-onu-id-requires
     enum-known-content-2
@@ -126,7 +126,7 @@ by-content-spec =
     enum-told-2
     deactivate-requires
     enum-known-content-3
-    own-serial-requires-2
+    serial-number-requires-2
     same-serial-requires-2
     disable-requires
     enum-told-3

@@ -7,19 +7,20 @@ use lib.ListN.{length}
 use lib.Seq.{slice, take-all}
 use borrow.Author.Needs.{needs}
 use Rattle.ids.specs.Ids.{samePort}
+use Rattle.ports.specs.Limits.{addedPorts}
 use Rattle.ids.specs.Places.{placeFrom}
 use Rattle.ids.proofs.Places.{place-here, place-next, place-none}
 use Rattle.fragments.proofs.first_place.Statement.{statement}
 use Rattle.fragments.proofs.first_place.Tie as tie
 
 abbrev Inv-loop : tie.InvT-loop
-Inv-loop id ids i₀ i = (length ids ≡ 16) × (placeFrom (samePort id) i (slice i 16 ids) ≡ placeFrom (samePort id) 0 ids)
+Inv-loop id ids i₀ i = (length ids ≡ addedPorts) × (placeFrom (samePort id) i (slice i addedPorts ids) ≡ placeFrom (samePort id) 0 ids)
 
 abbrev μ-loop : tie.MeasureT-loop
-μ-loop id ids i₀ i = 16 - i
+μ-loop id ids i₀ i = addedPorts - i
 
 loop-holds : tie.Need-loop-holds Inv-loop μ-loop
-loop-holds c = (search needs, rw (take-all 16 (c .args .t1) (omega arith)))
+loop-holds c = (search needs, rw (take-all addedPorts (c .args .t1) (omega arith)))
 
 mul-other : tie.Need-mul-other Inv-loop μ-loop
 mul-other c = search needs
@@ -31,7 +32,7 @@ is-requires : tie.Need-is-requires Inv-loop μ-loop
 is-requires c κs = search needs
 
 returns : tie.Need-returns Inv-loop μ-loop
-returns c = place-here (samePort (c .before .before .before .before .before .args .id)) (c .before .before .before .before .loop .i) 16 (c .before .before .before .before .before .args .t1) _ (c .before .before .before .loop-test .taken) (omega arith) (sym (c .before .is .ensures) ∙ c .if1 .taken) ∙ c .before .before .before .before .loop .inv .1
+returns c = place-here (samePort (c .before .before .before .before .before .args .id)) (c .before .before .before .before .loop .i) addedPorts (c .before .before .before .before .before .args .t1) _ (c .before .before .before .loop-test .taken) (omega arith) (sym (c .before .is .ensures) ∙ c .if1 .taken) ∙ c .before .before .before .before .loop .inv .1
 
 add-i : tie.Need-add-i Inv-loop μ-loop
 add-i c = search needs
@@ -40,10 +41,10 @@ loop-less : tie.Need-loop-less Inv-loop μ-loop
 loop-less c = search needs
 
 loop-again : tie.Need-loop-again Inv-loop μ-loop
-loop-again c = (c .before .before .before .before .loop .inv .0, place-next (samePort (c .before .before .before .before .before .args .id)) (c .before .before .before .before .loop .i) 16 (c .before .before .before .before .before .args .t1) _ (c .before .before .before .loop-test .taken) (omega arith) (sym (c .before .is .ensures) ∙ c .if1 .left) ∙ c .before .before .before .before .loop .inv .1)
+loop-again c = (c .before .before .before .before .loop .inv .0, place-next (samePort (c .before .before .before .before .before .args .id)) (c .before .before .before .before .loop .i) addedPorts (c .before .before .before .before .before .args .t1) _ (c .before .before .before .loop-test .taken) (omega arith) (sym (c .before .is .ensures) ∙ c .if1 .left) ∙ c .before .before .before .before .loop .inv .1)
 
 returns-2 : tie.Need-returns-2 Inv-loop μ-loop
-returns-2 c = place-none (samePort (c .before .before .args .id)) (c .before .loop .i) 16 (c .before .before .args .t1) (omega arith) ∙ c .before .loop .inv .1
+returns-2 c = place-none (samePort (c .before .before .args .id)) (c .before .loop .i) addedPorts (c .before .before .args .t1) (omega arith) ∙ c .before .loop .inv .1
 
 pub first-place-spec : {M : Type 1} → statement M
 first-place-spec =

@@ -7,16 +7,17 @@ use Prim.Native.Nat.{_+_, _-_, _*_, _≤_}
 use lib.ListN.{length, drop}
 use borrow.Author.Needs.{needs}
 use Rattle.ids.specs.Ids.{samePort}
+use Rattle.ports.specs.Limits.{addedPorts}
 use Rattle.fragments.specs.Marks.{marks}
 use Rattle.fragments.proofs.Marked.{marks-turn, marks-end}
 use Rattle.fragments.proofs.marks_of.Statement.{statement}
 use Rattle.fragments.proofs.marks_of.Tie as tie
 
 abbrev Inv-loop : tie.InvT-loop
-Inv-loop id ids sum₀ i₀ sum i = (length ids ≡ 16) × (i ≤ 16) × (sum ≤ 271 * i) × (sum + marks (samePort id) i (drop i ids) ≡ marks (samePort id) 0 ids)
+Inv-loop id ids sum₀ i₀ sum i = (length ids ≡ addedPorts) × (i ≤ addedPorts) × (sum ≤ 271 * i) × (sum + marks (samePort id) i (drop i ids) ≡ marks (samePort id) 0 ids)
 
 abbrev μ-loop : tie.MeasureT-loop
-μ-loop id ids sum₀ i₀ sum i = 16 - i
+μ-loop id ids sum₀ i₀ sum i = addedPorts - i
 
 loop-holds : tie.Need-loop-holds Inv-loop μ-loop
 loop-holds c = (search needs, omega arith, omega arith, omega arith)

@@ -1,11 +1,10 @@
 -- `fragments::slot_in` meets its contract: an added port has the slot after its place.
 -- Assumes nothing.
 use mathlib.Core.Path.{_≡_, sym, ap, _∙_}
-use mathlib.Core.List.{[]}
 use lib.ListN.{length}
 use Rattle.ports.specs.Limits.{addedPorts}
 use Rattle.fragments.specs.Fragments.{behind}
-use Rattle.fragments.proofs.Effects.{added-below}
+use Rattle.fragments.proofs.Decided.{added-below}
 use borrow.Author.Needs.{needs}
 use Rattle.fragments.proofs.slot_in.Statement.{statement}
 use Rattle.fragments.proofs.slot_in.Tie as tie
@@ -23,7 +22,7 @@ count c = search needs
 behind-requires : tie.Need-behind-requires
 behind-requires c κs =
     let s = c .before .before .before in
-    rw (c .place-in .ensures) (added-below (record { ids = s .args .ids; lengths = []; waiting = [] }) (s .args .port) (count s))
+    rw (c .place-in .ensures) (added-below (s .args .ids) (s .args .port) (count s))
 
 management-requires : tie.Need-management-requires
 management-requires c κs = search needs

@@ -4,7 +4,7 @@ use mathlib.Core.Path.{_≡_, sym, ap, _∙_}
 use lib.ListN.{length, length-map}
 use Rattle.ports.specs.Limits.{addedPorts}
 use Rattle.fragments.specs.Fragments.{behind}
-use Rattle.fragments.proofs.Effects.{added-below}
+use Rattle.fragments.proofs.Decided.{added-below}
 use borrow.Author.Needs.{needs}
 use Rattle.fragments.proofs.slot_of.Statement.{statement}
 use Rattle.fragments.proofs.slot_of.Tie as tie
@@ -22,7 +22,7 @@ count c = simp length-map at (c .good .0 .1 .1 .0 .1 .0 .1)
 behind-requires : tie.Need-behind-requires
 behind-requires c κs =
     let s = c .before .before .before in
-    rw (c .place .ensures) (added-below (s .args .ports) (s .args .port) (count s))
+    rw (c .place .ensures) (added-below (s .args .ports .ids) (s .args .port) (count s))
 
 management-requires : tie.Need-management-requires
 management-requires c κs = search needs

@@ -2,7 +2,8 @@
 -- Assumes nothing.
 use mathlib.Core.Path.{_∙_, sym, ap}
 use borrow.Author.Tests.{not-true, not-false}
-use Rattle.host.specs.Host.{answerToRemove, found}
+use Rattle.host.specs.Host.{answerToRemove}
+use Rattle.ids.specs.Places.{isHeld}
 use borrow.Author.Needs.{needs}
 use Rattle.host.proofs.answer_to_remove.Statement.{statement}
 use Rattle.host.proofs.answer_to_remove.Tie as tie
@@ -24,16 +25,16 @@ returns-2 c = rw (sym (c .before .before .before .in-range .ensures) ∙ not-fal
 place-requires : tie.Need-place-requires
 place-requires c κs = search needs
 
-is-found-requires : tie.Need-is-found-requires
-is-found-requires c κs = search needs
+is-held-requires : tie.Need-is-held-requires
+is-held-requires c κs = search needs
 
 returns-3 : tie.Need-returns-3
 unfolding answerToRemove
-returns-3 c = rw (sym (c .before .before .before .before .before .before .before .in-range .ensures) ∙ not-false _ (c .before .before .before .before .before .before .if1 .left), sym (c .before .before .before .before .before .is-assignable .ensures) ∙ not-false _ (c .before .before .before .before .if2 .left), ap found (sym (c .before .before .place .ensures)) ∙ sym (c .before .is-found .ensures) ∙ c .if3 .taken)
+returns-3 c = rw (sym (c .before .before .before .before .before .before .before .in-range .ensures) ∙ not-false _ (c .before .before .before .before .before .before .if1 .left), sym (c .before .before .before .before .before .is-assignable .ensures) ∙ not-false _ (c .before .before .before .before .if2 .left), ap isHeld (sym (c .before .before .place .ensures)) ∙ sym (c .before .is-held .ensures) ∙ c .if3 .taken)
 
 returns-4 : tie.Need-returns-4
 unfolding answerToRemove
-returns-4 c = rw (sym (c .before .before .before .before .before .before .before .in-range .ensures) ∙ not-false _ (c .before .before .before .before .before .before .if1 .left), sym (c .before .before .before .before .before .is-assignable .ensures) ∙ not-false _ (c .before .before .before .before .if2 .left), ap found (sym (c .before .before .place .ensures)) ∙ sym (c .before .is-found .ensures) ∙ c .if3 .left)
+returns-4 c = rw (sym (c .before .before .before .before .before .before .before .in-range .ensures) ∙ not-false _ (c .before .before .before .before .before .before .if1 .left), sym (c .before .before .before .before .before .is-assignable .ensures) ∙ not-false _ (c .before .before .before .before .if2 .left), ap isHeld (sym (c .before .before .place .ensures)) ∙ sym (c .before .is-held .ensures) ∙ c .if3 .left)
 
 pub answer-to-remove-spec : {M : Type 1} → statement M
 answer-to-remove-spec =
@@ -44,6 +45,6 @@ answer-to-remove-spec =
     is-assignable-requires
     returns-2
     place-requires
-    is-found-requires
+    is-held-requires
     returns-3
     returns-4)

@@ -17,6 +17,12 @@ returns : tie.Need-returns
 unfolding genuineBy micRightBy
 returns c = simp (lt-leb messageOctets (length (now (c .before .before .args .m))) (c .if1 .taken))
 
+shared-slice-read-address : tie.Need-shared-slice-read-address
+shared-slice-read-address c = search needs
+
+shared-slice-read-address-2 : tie.Need-shared-slice-read-address-2
+shared-slice-read-address-2 c = search needs
+
 address-requires : tie.Need-address-requires
 address-requires c κs = search needs
 
@@ -36,7 +42,7 @@ returns-2 : tie.Need-returns-2
 unfolding genuineBy
 returns-2 c =
     let at = c .before .before in
-    let args = at .before .before .before .before .before .args in
+    let args = at .before .before .before .before .before .before .before .args in
     let m = now (args .m) in
     let e : byDefault Downstream (addressOf m) (typeOf m) ≡ true =
     sym (at .by-default .ensures ∙ ap (λ (a : OnuId). byDefault Downstream a (typeOf m)) (at .before .before .address .ensures))
@@ -49,7 +55,7 @@ returns-3 : tie.Need-returns-3
 unfolding genuineBy
 returns-3 c =
     let at = c .before .before in
-    let args = at .before .before .before .before .before .args in
+    let args = at .before .before .before .before .before .before .before .args in
     let m = now (args .m) in
     let e : byDefault Downstream (addressOf m) (typeOf m) ≡ false =
     sym (at .by-default .ensures ∙ ap (λ (a : OnuId). byDefault Downstream a (typeOf m)) (at .before .before .address .ensures))
@@ -63,6 +69,8 @@ genuine-spec =
     tie.close
     (tie.spec
     returns
+    shared-slice-read-address
+    shared-slice-read-address-2
     address-requires
     shared-slice-read-by-default
     by-default-requires

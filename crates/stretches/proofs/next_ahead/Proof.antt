@@ -3,8 +3,8 @@
 use denote.Ref.{now}
 use mathlib.Core.Path.{sym, ap, _∙_}
 use native.Mathlib.Omega.{arith}
-use Rattle.framing.specs.Reads.{foundXgem}
-use Rattle.framing.proofs.Frames.{size-le}
+use Rattle.xgem.specs.Reads.{foundXgem}
+use Rattle.xgem.proofs.Frames.{size-le}
 use Rattle.payload.proofs.Reading.{pli-lt, none-ahead, lost-ahead, long-ahead, frame-ahead}
 use borrow.Author.Needs.{needs}
 use Rattle.stretches.proofs.next_ahead.Statement.{statement}

@@ -17,8 +17,8 @@ enum-told-2 c = search needs
 enum-told-3 : tie.Need-enum-told-3
 enum-told-3 c = search needs
 
-enum-known-effect : tie.Need-enum-known-effect
-enum-known-effect c = search needs
+enum-known-what : tie.Need-enum-known-what
+enum-known-what c = search needs
 
 delivered-requires : tie.Need-delivered-requires
 delivered-requires c κs = search needs
@@ -36,7 +36,7 @@ returns-3 : tie.Need-returns-3
 returns-3 c = rw (c .before .before .before .seek .given .1, c .enum-told3 .given .1)
 
 returns-4 : tie.Need-returns-4
-returns-4 c = rw (c .before .before .before .before .before .seek .given .1, c .before .before .effect .given .1) (c .delivered .ensures)
+returns-4 c = rw (c .before .before .before .before .before .seek .given .1, c .before .before .what .given .1) (c .delivered .ensures)
 
 returns-5 : tie.Need-returns-5
 returns-5 c = rw (c .before .before .before .seek .given .1, c .enum-told4 .given .1)
@@ -49,7 +49,7 @@ seek-on-spec =
     enum-known-seek
     enum-told-2
     enum-told-3
-    enum-known-effect
+    enum-known-what
     delivered-requires
     enum-told-4
     returns

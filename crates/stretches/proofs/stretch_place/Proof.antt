@@ -7,7 +7,7 @@ use native.Mathlib.Omega.{arith}
 use borrow.Author.Needs.{needs}
 use lib.ListN.{length, drop, length-map}
 use Rattle.ports.specs.Limits.{addedPorts}
-use Rattle.fragments.proofs.Effects.{effect-within}
+use Rattle.fragments.proofs.Decided.{reassembly-within}
 use Rattle.payload.specs.declared.frames.Next.the-variants.{Frame}
 use Rattle.payload.specs.Frames.{nextOf}
 use Rattle.payload.proofs.Walks.{Numbers, numbers-of, rest-part}
@@ -89,8 +89,8 @@ add-body c = omega (arith, numbers (c))
 cast-n : tie.Need-cast-n Inv-loop μ-loop
 cast-n c = omega (arith, numbers (c .before))
 
-effect-of-requires : tie.Need-effect-of-requires Inv-loop μ-loop
-effect-of-requires c κs = search needs
+reassembly-of-requires : tie.Need-reassembly-of-requires Inv-loop μ-loop
+reassembly-of-requires c κs = search needs
 
 seek-on-requires : tie.Need-seek-on-requires Inv-loop μ-loop
 seek-on-requires c κs = search needs
@@ -99,7 +99,7 @@ moved-requires : tie.Need-moved-requires Inv-loop μ-loop
 moved-requires c κs =
     let l = c .before .before .before .before .before .before .before .before .before in
     let x = c .before .before .before .before .before .next .given .0 .0 in
-    rw (c .before .effect-of .ensures) (effect-within (l .loop .held) (c .before .before .before .before .before .before .before .before .before .before .before .args .own) (x .port) (x .last) (x .pli) (l .loop .inv .0 .ids))
+    rw (c .before .reassembly-of .ensures) (reassembly-within (l .loop .held .ids) (l .loop .held .lengths) (l .loop .held .waiting) (c .before .before .before .before .before .before .before .before .before .before .before .args .own) (x .port) (x .last) (x .pli) (l .loop .inv .0 .ids))
 
 payload-size-requires : tie.Need-payload-size-requires Inv-loop μ-loop
 payload-size-requires c κs = search needs
@@ -116,7 +116,7 @@ loop-again c =
     let a = c .before .before .before .before .before .before .before .before .before .before .before .before .before .args in
     let pay = now (a .payload) in (
       rw (c .payload-size .ensures)
-          (seen-on (a .own) pay (a .ports) (a .k) (l .loop .held) (l .loop .seek) (l .loop .at) (l .loop .inv .0) (c .before .before .before .before .before .before .before .next .given .0 .0) (framed (c .before .before .before .before .before .before)) _ (c .before .before .before .effect-of .ensures) _ (c .before .before .seek-on .ensures) _ (c .before .moved .ensures)),
+          (seen-on (a .own) pay (a .ports) (a .k) (l .loop .held) (l .loop .seek) (l .loop .at) (l .loop .inv .0) (c .before .before .before .before .before .before .before .next .given .0 .0) (framed (c .before .before .before .before .before .before)) _ (c .before .before .before .reassembly-of .ensures) _ (c .before .before .seek-on .ensures) _ (c .before .moved .ensures)),
       l .loop .inv .1,
     )
 
@@ -140,7 +140,7 @@ stretch-place-spec =
     enum-known-next
     add-body
     cast-n
-    effect-of-requires
+    reassembly-of-requires
     seek-on-requires
     moved-requires
     payload-size-requires

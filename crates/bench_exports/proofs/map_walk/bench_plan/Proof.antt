@@ -3,7 +3,7 @@
 use denote.Ref.{now}
 use mathlib.Core.Path.{ap, _∙_}
 use Rattle.entries.specs.declared.Own.{Own}
-use Rattle.bwmap.specs.Plan.{Left, planOf}
+use Rattle.bwmap.specs.Plan.{PlanLeft, planOf}
 use Rattle.bench_exports.specs.Maps.{recordsOf}
 use borrow.Author.Needs.{needs}
 use Rattle.bench_exports.proofs.map_walk.bench_plan.Statement.{statement}
@@ -24,7 +24,7 @@ same-length c = search needs
 returns : tie.Need-returns
 returns c =
     let e = c .before .before .before .plan-map .ensures ∙ ap (λ (o : Own). planOf o (now (c .before .before .before .before .before .before .before .before .args .map)) 0 (now (c .before .before .before .before .before .before .before .before .args .plan))) (c .before .before .before .before .before .bench-own .ensures) in
-    (c .records-of .ensures ∙ ap (λ (l : Left). recordsOf (l .answer)) e, ap (λ (l : Left). l .plan) e)
+    (c .records-of .ensures ∙ ap (λ (l : PlanLeft). recordsOf (l .answer)) e, ap (λ (l : PlanLeft). l .plan) e)
 
 pub bench-plan-spec : {M : Type 1} → statement M
 bench-plan-spec =

@@ -1,14 +1,19 @@
 -- `boundary::arrivals::lingbarrow_frame` meets its contract.
 -- Assumes nothing.
-use mathlib.Core.Path.{_≡_, refl, sym, ap, ap₂, _∙_}
-use native.Mathlib.Omega.{arith}
+use Rattle.frame.specs.Given.{Arrival, Lent, arriving, lending}
 use denote.Ref.{now}
-use borrow.Author.Tests.{le-leb, lt-leb, le-ltb, lt-ltb}
+use borrow.Author.Tests.{le-leb, lt-leb}
 use Rattle.boundary.specs.Frames.{frameOn}
 use Rattle.boundary.proofs.Laws.{is-held, is-unreadable, is-short, frame-held, frame-unreadable, frame-short}
 use borrow.Author.Needs.{needs}
 use Rattle.boundary.proofs.arrivals.lingbarrow_frame.Statement.{statement}
 use Rattle.boundary.proofs.arrivals.lingbarrow_frame.Tie as tie
+
+abbrev arrived : tie.Start → Arrival
+arrived c = arriving (now (c .args .frame)) (c .args .random-delay)
+
+abbrev buffers : tie.Start → Lent
+buffers c = lending (now (c .args .memory)) (now (c .args .plan)) (now (c .args .replies)) (now (c .args .deliveries))
 
 returns : tie.Need-returns
 unfolding frameOn
@@ -32,11 +37,17 @@ put-back-requires c κs = search needs
 enum-told-2 : tie.Need-enum-told-2
 enum-told-2 c = search needs
 
+none-requires : tie.Need-none-requires
+none-requires c κs = search needs
+
 put-counts-requires-2 : tie.Need-put-counts-requires-2
 put-counts-requires-2 c κs = search needs
 
 enum-told-3 : tie.Need-enum-told-3
 enum-told-3 c = search needs
+
+none-requires-2 : tie.Need-none-requires-2
+none-requires-2 c κs = search needs
 
 put-counts-requires-3 : tie.Need-put-counts-requires-3
 put-counts-requires-3 c κs = search needs
@@ -61,7 +72,7 @@ same-length-6 c = search needs
 
 returns-2 : tie.Need-returns-2
 unfolding frameOn
-returns-2 c = rw (le-leb _ _ (c .before .before .before .before .before .before .before .before .before .before .before .before .before .before .before .before .before .before .before .before .before .before .before .before .before .before .before .if1 .left)) (frame-held (now (c .before .before .before .before .before .before .before .before .before .before .before .before .before .before .before .before .before .before .before .before .before .before .before .before .before .before .before .before .before .before .before .before .before .before .before .args .state)) (now (c .before .before .before .before .before .before .before .before .before .before .before .before .before .before .before .before .before .before .before .before .before .before .before .before .before .before .before .before .before .before .before .before .before .before .before .args .frame)) (c .before .before .before .before .before .before .before .before .before .before .before .before .before .before .before .before .before .before .before .before .before .before .before .before .before .before .before .before .before .before .before .before .before .before .before .args .delay) (now (c .before .before .before .before .before .before .before .before .before .before .before .before .before .before .before .before .before .before .before .before .before .before .before .before .before .before .before .before .before .before .before .before .before .before .before .args .counts)) (record { memory = now (c .before .before .before .before .before .before .before .before .before .before .before .before .before .before .before .before .before .before .before .before .before .before .before .before .before .before .before .before .before .before .before .before .before .before .before .args .memory); plan = now (c .before .before .before .before .before .before .before .before .before .before .before .before .before .before .before .before .before .before .before .before .before .before .before .before .before .before .before .before .before .before .before .before .before .before .before .args .plan); replies = now (c .before .before .before .before .before .before .before .before .before .before .before .before .before .before .before .before .before .before .before .before .before .before .before .before .before .before .before .before .before .before .before .before .before .before .before .args .replies); deliveries = now (c .before .before .before .before .before .before .before .before .before .before .before .before .before .before .before .before .before .before .before .before .before .before .before .before .before .before .before .before .before .before .before .before .before .before .before .args .deliveries) }) (c .before .before .before .before .before .before .before .before .before .before .before .before .before .before .before .before .before .before .before .before .before .before .before .before .before .read-state .result .station) (c .before .before .before .before .before .before .before .before .before .before .before .before .before .before .before .before .before .frame .result) _ _ _ _ (is-held (now (c .before .before .before .before .before .before .before .before .before .before .before .before .before .before .before .before .before .before .before .before .before .before .before .before .before .before .before .before .before .before .before .before .before .before .before .args .state)) (c .before .before .before .before .before .before .before .before .before .before .before .before .before .before .before .before .before .before .before .before .before .before .before .before .before .read-state .result) (c .before .before .before .before .before .before .before .before .before .before .before .before .before .before .before .before .before .before .before .before .before .before .before .before .before .read-state .ensures) (c .before .before .before .before .before .before .before .before .before .before .before .before .before .before .before .before .before .before .before .before .before .before .enum-told .given .1)) (c .before .before .before .before .before .before .before .before .before .before .before .before .before .before .before .before .before .frame .ensures) (c .before .before .put-back .ensures .0) (c .before .before .put-back .ensures .1) (c .before .before .before .before .before .before .put-counts .ensures))
+returns-2 c = rw (le-leb _ _ (c .before .before .before .before .before .before .before .before .before .before .before .before .before .before .before .before .before .before .before .before .before .before .before .before .before .before .before .before .before .if1 .left)) (frame-held (now (c .before .before .before .before .before .before .before .before .before .before .before .before .before .before .before .before .before .before .before .before .before .before .before .before .before .before .before .before .before .before .before .before .before .before .before .before .before .args .state)) (arrived (c .before .before .before .before .before .before .before .before .before .before .before .before .before .before .before .before .before .before .before .before .before .before .before .before .before .before .before .before .before .before .before .before .before .before .before .before .before)) (now (c .before .before .before .before .before .before .before .before .before .before .before .before .before .before .before .before .before .before .before .before .before .before .before .before .before .before .before .before .before .before .before .before .before .before .before .before .before .args .counts)) (buffers (c .before .before .before .before .before .before .before .before .before .before .before .before .before .before .before .before .before .before .before .before .before .before .before .before .before .before .before .before .before .before .before .before .before .before .before .before .before)) (c .before .before .before .before .before .before .before .before .before .before .before .before .before .before .before .before .before .before .before .before .before .before .before .before .before .before .before .read-state .result .station) (c .before .before .before .before .before .before .before .before .before .before .before .before .before .before .before .before .before .before .before .frame .result) _ _ _ _ (is-held (now (c .before .before .before .before .before .before .before .before .before .before .before .before .before .before .before .before .before .before .before .before .before .before .before .before .before .before .before .before .before .before .before .before .before .before .before .before .before .args .state)) (c .before .before .before .before .before .before .before .before .before .before .before .before .before .before .before .before .before .before .before .before .before .before .before .before .before .before .before .read-state .result) (c .before .before .before .before .before .before .before .before .before .before .before .before .before .before .before .before .before .before .before .before .before .before .before .before .before .before .before .read-state .ensures) (c .before .before .before .before .before .before .before .before .before .before .before .before .before .before .before .before .before .before .before .before .before .before .before .before .enum-told .given .1)) (c .before .before .before .before .before .before .before .before .before .before .before .before .before .before .before .before .before .before .before .frame .ensures) (c .before .before .put-back .ensures .0) (c .before .before .put-back .ensures .1) (c .before .before .before .before .before .before .before .before .put-counts .ensures))
 
 same-length-7 : tie.Need-same-length-7
 same-length-7 c = search needs
@@ -71,7 +82,7 @@ same-length-8 c = search needs
 
 returns-3 : tie.Need-returns-3
 unfolding frameOn
-returns-3 c = rw (le-leb _ _ (c .before .before .before .before .before .before .before .before .before .if1 .left)) (frame-unreadable (now (c .before .before .before .before .before .before .before .before .before .before .before .before .before .before .before .before .before .args .state)) (now (c .before .before .before .before .before .before .before .before .before .before .before .before .before .before .before .before .before .args .frame)) (c .before .before .before .before .before .before .before .before .before .before .before .before .before .before .before .before .before .args .delay) (now (c .before .before .before .before .before .before .before .before .before .before .before .before .before .before .before .before .before .args .counts)) (record { memory = now (c .before .before .before .before .before .before .before .before .before .before .before .before .before .before .before .before .before .args .memory); plan = now (c .before .before .before .before .before .before .before .before .before .before .before .before .before .before .before .before .before .args .plan); replies = now (c .before .before .before .before .before .before .before .before .before .before .before .before .before .before .before .before .before .args .replies); deliveries = now (c .before .before .before .before .before .before .before .before .before .before .before .before .before .before .before .before .before .args .deliveries) }) _ (is-unreadable (now (c .before .before .before .before .before .before .before .before .before .before .before .before .before .before .before .before .before .args .state)) (c .before .before .before .before .before .before .before .read-state .result) (c .before .before .before .before .before .before .before .read-state .ensures) (c .before .before .before .before .enum-told2 .given .1)) (c .before .before .put-counts2 .ensures))
+returns-3 c = rw (le-leb _ _ (c .before .before .before .before .before .before .before .before .before .before .if1 .left)) (frame-unreadable (now (c .before .before .before .before .before .before .before .before .before .before .before .before .before .before .before .before .before .before .args .state)) (arrived (c .before .before .before .before .before .before .before .before .before .before .before .before .before .before .before .before .before .before)) (now (c .before .before .before .before .before .before .before .before .before .before .before .before .before .before .before .before .before .before .args .counts)) (buffers (c .before .before .before .before .before .before .before .before .before .before .before .before .before .before .before .before .before .before)) _ (c .before .before .before .none .result) (is-unreadable (now (c .before .before .before .before .before .before .before .before .before .before .before .before .before .before .before .before .before .before .args .state)) (c .before .before .before .before .before .before .before .before .read-state .result) (c .before .before .before .before .before .before .before .before .read-state .ensures) (c .before .before .before .before .before .enum-told2 .given .1)) (c .before .before .before .none .ensures) (c .before .before .put-counts2 .ensures))
 
 same-length-9 : tie.Need-same-length-9
 same-length-9 c = search needs
@@ -81,7 +92,7 @@ same-length-10 c = search needs
 
 returns-4 : tie.Need-returns-4
 unfolding frameOn
-returns-4 c = rw (le-leb _ _ (c .before .before .before .before .before .before .before .before .before .if1 .left)) (frame-short (now (c .before .before .before .before .before .before .before .before .before .before .before .before .before .before .before .before .before .args .state)) (now (c .before .before .before .before .before .before .before .before .before .before .before .before .before .before .before .before .before .args .frame)) (c .before .before .before .before .before .before .before .before .before .before .before .before .before .before .before .before .before .args .delay) (now (c .before .before .before .before .before .before .before .before .before .before .before .before .before .before .before .before .before .args .counts)) (record { memory = now (c .before .before .before .before .before .before .before .before .before .before .before .before .before .before .before .before .before .args .memory); plan = now (c .before .before .before .before .before .before .before .before .before .before .before .before .before .before .before .before .before .args .plan); replies = now (c .before .before .before .before .before .before .before .before .before .before .before .before .before .before .before .before .before .args .replies); deliveries = now (c .before .before .before .before .before .before .before .before .before .before .before .before .before .before .before .before .before .args .deliveries) }) _ (is-short (now (c .before .before .before .before .before .before .before .before .before .before .before .before .before .before .before .before .before .args .state)) (c .before .before .before .before .before .before .before .read-state .result) (c .before .before .before .before .before .before .before .read-state .ensures) (c .before .before .before .before .enum-told3 .given .1)) (c .before .before .put-counts3 .ensures))
+returns-4 c = rw (le-leb _ _ (c .before .before .before .before .before .before .before .before .before .before .if1 .left)) (frame-short (now (c .before .before .before .before .before .before .before .before .before .before .before .before .before .before .before .before .before .before .args .state)) (arrived (c .before .before .before .before .before .before .before .before .before .before .before .before .before .before .before .before .before .before)) (now (c .before .before .before .before .before .before .before .before .before .before .before .before .before .before .before .before .before .before .args .counts)) (buffers (c .before .before .before .before .before .before .before .before .before .before .before .before .before .before .before .before .before .before)) _ (c .before .before .before .none2 .result) (is-short (now (c .before .before .before .before .before .before .before .before .before .before .before .before .before .before .before .before .before .before .args .state)) (c .before .before .before .before .before .before .before .before .read-state .result) (c .before .before .before .before .before .before .before .before .read-state .ensures) (c .before .before .before .before .before .enum-told3 .given .1)) (c .before .before .before .none2 .ensures) (c .before .before .put-counts3 .ensures))
 
 pub lingbarrow-frame-spec : {M : Type 1} → statement M
 lingbarrow-frame-spec =
@@ -94,8 +105,10 @@ lingbarrow-frame-spec =
     put-counts-requires
     put-back-requires
     enum-told-2
+    none-requires
     put-counts-requires-2
     enum-told-3
+    none-requires-2
     put-counts-requires-3
     same-length
     same-length-2

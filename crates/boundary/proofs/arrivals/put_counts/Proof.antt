@@ -1,6 +1,5 @@
 -- `boundary::arrivals::put_counts` meets its contract.
 -- Assumes nothing.
-use mathlib.Core.Path.{_≡_, refl, sym, ap, ap₂, _∙_}
 use native.Mathlib.Omega.{arith}
 use denote.Ref.{now}
 use mathlib.Core.List.{[], _∷_}
@@ -23,7 +22,7 @@ same-length : tie.Need-same-length
 same-length c = search needs
 
 returns : tie.Need-returns
-returns c = sets-eq (c .args .records ∷ (c .args .replies ∷ (c .args .bytes ∷ []))) (now (c .args .counts)) 0 (omega arith)
+returns c = sets-eq (c .args .c .records ∷ (c .args .c .replies ∷ (c .args .c .bytes ∷ []))) (now (c .args .counts)) 0 (omega arith)
 
 pub put-counts-spec : {M : Type 1} → statement M
 put-counts-spec =

@@ -1,11 +1,9 @@
 -- `boundary::states::lingbarrow_give_key` meets its contract.
 -- Assumes nothing.
-use mathlib.Core.Path.{_≡_, refl, sym, ap, ap₂, _∙_}
-use native.Mathlib.Omega.{arith}
+use mathlib.Core.Path.{ap, _∙_}
 use denote.Ref.{now}
-use borrow.Author.Tests.{le-leb, lt-leb, le-ltb, lt-ltb}
+use borrow.Author.Tests.{le-leb, lt-leb}
 use Rattle.station.specs.declared.Station.{Station}
-use Rattle.ids.specs.declared.PortId.{PortId}
 use Rattle.boundary.specs.Calls.{keyOn}
 use Rattle.boundary.proofs.Laws.{is-held, is-unreadable, is-short, call-held, call-unreadable, call-short}
 use Rattle.host.specs.Host.{afterKey}
@@ -20,8 +18,8 @@ returns : tie.Need-returns
 unfolding keyOn
 returns c = rw (lt-leb _ _ (c .if1 .taken))
 
-octets16-requires : tie.Need-octets16-requires
-octets16-requires c κs = search needs
+key-of-requires : tie.Need-key-of-requires
+key-of-requires c κs = search needs
 
 read-state-requires : tie.Need-read-state-requires
 read-state-requires c κs = search needs
@@ -46,7 +44,7 @@ same-length c = search needs
 
 returns-2 : tie.Need-returns-2
 unfolding keyOn
-returns-2 c = rw (le-leb _ _ (c .before .before .before .before .before .before .before .before .before .before .before .if1 .left)) (call-held (now (c .before .before .before .before .before .before .before .before .before .before .before .before .before .before .args .state)) (λ (s : Station). afterKey s (take 16 (now (c .before .before .before .before .before .before .before .before .before .before .before .before .before .before .args .key)))) (c .before .before .before .before .before .before .before .before .read-state .result .station) (c .before .before .before .before .give-key .result) _ _ (is-held (now (c .before .before .before .before .before .before .before .before .before .before .before .before .before .before .args .state)) (c .before .before .before .before .before .before .before .before .read-state .result) (c .before .before .before .before .before .before .before .before .read-state .ensures) (c .before .before .before .before .before .enum-told .given .1)) (c .before .before .before .before .give-key .ensures ∙ ap (λ (k : List ℕ). afterKey (c .before .before .before .before .before .before .before .before .read-state .result .station) k) (c .before .before .before .before .before .before .before .before .before .before .octets16 .ensures)) (c .before .before .settle .ensures .0) (c .before .before .settle .ensures .1))
+returns-2 c = rw (le-leb _ _ (c .before .before .before .before .before .before .before .before .before .before .before .if1 .left)) (call-held (now (c .before .before .before .before .before .before .before .before .before .before .before .before .before .before .args .state)) (λ (s : Station). afterKey s (take 16 (now (c .before .before .before .before .before .before .before .before .before .before .before .before .before .before .args .key)))) (c .before .before .before .before .before .before .before .before .read-state .result .station) (c .before .before .before .before .give-key .result) _ _ (is-held (now (c .before .before .before .before .before .before .before .before .before .before .before .before .before .before .args .state)) (c .before .before .before .before .before .before .before .before .read-state .result) (c .before .before .before .before .before .before .before .before .read-state .ensures) (c .before .before .before .before .before .enum-told .given .1)) (c .before .before .before .before .give-key .ensures ∙ ap (λ (k : List ℕ). afterKey (c .before .before .before .before .before .before .before .before .read-state .result .station) k) (c .before .before .before .before .before .before .before .before .before .before .key-of .ensures)) (c .before .before .settle .ensures .0) (c .before .before .settle .ensures .1))
 
 same-length-2 : tie.Need-same-length-2
 same-length-2 c = search needs
@@ -67,7 +65,7 @@ lingbarrow-give-key-spec =
     tie.close
     (tie.spec
     returns
-    octets16-requires
+    key-of-requires
     read-state-requires
     enum-told
     give-key-requires

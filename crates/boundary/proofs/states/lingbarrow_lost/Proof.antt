@@ -1,14 +1,9 @@
 -- `boundary::states::lingbarrow_lost` meets its contract.
 -- Assumes nothing.
-use mathlib.Core.Path.{_≡_, refl, sym, ap, ap₂, _∙_}
-use native.Mathlib.Omega.{arith}
 use denote.Ref.{now}
-use borrow.Author.Tests.{le-leb, lt-leb, le-ltb, lt-ltb}
-use Rattle.station.specs.declared.Station.{Station}
-use Rattle.ids.specs.declared.PortId.{PortId}
 use Rattle.boundary.specs.Calls.{lostOn}
 use Rattle.boundary.proofs.Laws.{is-held, is-unreadable, is-short, call-held, call-unreadable, call-short}
-use Rattle.engine.specs.Times.{lostLeft}
+use Rattle.engine.specs.Lods.{lostLeft}
 use borrow.Author.Needs.{needs}
 use Rattle.boundary.proofs.states.lingbarrow_lost.Statement.{statement}
 use Rattle.boundary.proofs.states.lingbarrow_lost.Tie as tie

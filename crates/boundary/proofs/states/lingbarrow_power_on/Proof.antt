@@ -1,9 +1,8 @@
 -- `boundary::states::lingbarrow_power_on` meets its contract.
 -- Assumes nothing.
-use mathlib.Core.Path.{_≡_, refl, sym, ap, ap₂, _∙_}
-use native.Mathlib.Omega.{arith}
+use mathlib.Core.Path.{ap₂, _∙_}
 use denote.Ref.{now}
-use borrow.Author.Tests.{le-leb, lt-leb, le-ltb, lt-ltb}
+use borrow.Author.Tests.{le-leb, lt-leb}
 use Rattle.boundary.specs.Calls.{powerOnIn}
 use Rattle.boundary.proofs.Laws.{powered}
 use Rattle.station.specs.Station.{powerOn}
@@ -23,11 +22,11 @@ returns-3 : tie.Need-returns-3
 unfolding powerOnIn
 returns-3 c = rw (le-leb _ _ (c .before .before .if1 .left), le-leb _ _ (c .before .if2 .left), lt-leb _ _ (c .if3 .taken))
 
-octets8-requires : tie.Need-octets8-requires
-octets8-requires c κs = search needs
+serial-of-requires : tie.Need-serial-of-requires
+serial-of-requires c κs = search needs
 
-octets36-requires : tie.Need-octets36-requires
-octets36-requires c κs = search needs
+registration-of-requires : tie.Need-registration-of-requires
+registration-of-requires c κs = search needs
 
 power-on-requires : tie.Need-power-on-requires
 power-on-requires c κs = search needs
@@ -40,7 +39,7 @@ same-length c = search needs
 
 returns-4 : tie.Need-returns-4
 unfolding powerOnIn
-returns-4 c = rw (le-leb _ _ (c .before .before .before .before .before .before .before .before .before .if1 .left), le-leb _ _ (c .before .before .before .before .before .before .before .before .if2 .left), le-leb _ _ (c .before .before .before .before .before .before .before .if3 .left)) (powered (now (c .before .before .before .before .before .before .before .before .before .before .before .before .before .args .state)) _ _ _ (c .before .before .write-state .ensures) (c .before .before .before .before .power-on .ensures ∙ ap₂ powerOn (c .before .before .before .before .before .before .octets8 .ensures) (c .before .before .before .before .before .octets36 .ensures)))
+returns-4 c = rw (le-leb _ _ (c .before .before .before .before .before .before .before .before .before .if1 .left), le-leb _ _ (c .before .before .before .before .before .before .before .before .if2 .left), le-leb _ _ (c .before .before .before .before .before .before .before .if3 .left)) (powered (now (c .before .before .before .before .before .before .before .before .before .before .before .before .before .args .state)) _ _ _ (c .before .before .write-state .ensures) (c .before .before .before .before .power-on .ensures ∙ ap₂ powerOn (c .before .before .before .before .before .before .serial-of .ensures) (c .before .before .before .before .before .registration-of .ensures)))
 
 pub lingbarrow-power-on-spec : {M : Type 1} → statement M
 lingbarrow-power-on-spec =
@@ -49,8 +48,8 @@ lingbarrow-power-on-spec =
     returns
     returns-2
     returns-3
-    octets8-requires
-    octets36-requires
+    serial-of-requires
+    registration-of-requires
     power-on-requires
     write-state-requires
     same-length

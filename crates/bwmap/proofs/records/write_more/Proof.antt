@@ -8,8 +8,9 @@ use denote.Ref.{now}
 use lib.ListN.{length}
 use lib.Seq.{sets}
 use borrow.Author.Needs.{needs}
-use Rattle.bwmap.specs.Plan.{moreNumbers}
+use Rattle.plan.specs.Plan.{moreNumbers}
 use Rattle.bwmap.specs.Turns.{allocationsFrom}
+use Rattle.plan.proofs.Placed.{placed-whole}
 use Rattle.bwmap.proofs.Laws.{written-one, written-all, write-step, write-done}
 use Rattle.bwmap.proofs.records.write_more.Statement.{statement}
 use Rattle.bwmap.proofs.records.write_more.Tie as tie
@@ -29,17 +30,17 @@ add-allocation-at c = search needs
 allocation-at-requires : tie.Need-allocation-at-requires Inv-loop μ-loop
 allocation-at-requires c κs = search needs
 
-mul-put : tie.Need-mul-put Inv-loop μ-loop
-mul-put c = search needs
+mul-write-record : tie.Need-mul-write-record Inv-loop μ-loop
+mul-write-record c = search needs
 
-add-put : tie.Need-add-put Inv-loop μ-loop
-add-put c = search needs
+add-write-record : tie.Need-add-write-record Inv-loop μ-loop
+add-write-record c = search needs
 
 more-flags-requires : tie.Need-more-flags-requires Inv-loop μ-loop
 more-flags-requires c κs = search needs
 
-put-requires : tie.Need-put-requires Inv-loop μ-loop
-put-requires c κs = omega (arith, c .before .before .before .before .loop .inv .1, c .before .before .before .before .before .before .before .pre .1, c .before .before .before .loop-test .taken)
+write-record-requires : tie.Need-write-record-requires Inv-loop μ-loop
+write-record-requires c κs = omega (arith, c .before .before .before .before .loop .inv .1, c .before .before .before .before .before .before .before .pre .1, c .before .before .before .loop-test .taken)
 
 add-k : tie.Need-add-k Inv-loop μ-loop
 add-k c = search needs
@@ -51,7 +52,7 @@ loop-again : tie.Need-loop-again Inv-loop μ-loop
 loop-again c =
     let a = c .before .before .before .before .before .before .before .before .before .before .args in
     let l = c .before .before .before .before .before .before .before .loop in
-    (omega arith, c .before .before .put .kept .0 ∙ l .inv .1, write-step (a .at) (l .k) (a .h) _ _ _ (l .plan) _ _ _ (written-one (now (a .map)) (a .from + l .k) (a .from + (l .k + 1)) (l .k) (a .count) (c .before .before .before .before .before .before .loop-test .taken) (omega arith)) (c .before .before .before .before .before .allocation-at .ensures) (c .before .before .before .more-flags .ensures) (c .before .before .put .ensures) ∙ l .inv .2)
+    (omega arith, c .before .before .write-record .kept .0 ∙ l .inv .1, write-step (a .at) (l .k) (a .h) _ _ _ (l .plan) _ _ _ (written-one (now (a .map)) (a .from + l .k) (a .from + (l .k + 1)) (l .k) (a .count) (c .before .before .before .before .before .before .loop-test .taken) (omega arith)) (c .before .before .before .before .before .allocation-at .ensures) (c .before .before .before .more-flags .ensures) (c .before .before .write-record .ensures ∙ placed-whole (l .plan) (a .at + 4 * l .k) (c .before .before .before .before .before .allocation-at .result) (c .before .before .before .more-flags .result) (a .h .start) (omega (arith, l .inv .1, c .before .before .before .before .before .before .before .before .before .before .pre .1, c .before .before .before .before .before .before .loop-test .taken))) ∙ l .inv .2)
 
 same-length : tie.Need-same-length Inv-loop μ-loop
 same-length c = c .before .loop .inv .1
@@ -71,10 +72,10 @@ write-more-spec =
     loop-holds
     add-allocation-at
     allocation-at-requires
-    mul-put
-    add-put
+    mul-write-record
+    add-write-record
     more-flags-requires
-    put-requires
+    write-record-requires
     add-k
     loop-less
     loop-again

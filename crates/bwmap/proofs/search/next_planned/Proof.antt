@@ -14,10 +14,10 @@ use Rattle.bwmap.proofs.search.next_planned.Statement.{statement}
 use Rattle.bwmap.proofs.search.next_planned.Tie as tie
 
 abbrev Inv-loop : tie.InvT-loop
-Inv-loop map own from end bursts n s₀ i₀ s i = (from ≤ i) × (i ≤ entryCount map) × Modest s × Stage own map end bursts from i s
+Inv-loop map own from around n s₀ i₀ s i = (from ≤ i) × (i ≤ entryCount map) × Modest s × Stage own map around from i s
 
 abbrev μ-loop : tie.MeasureT-loop
-μ-loop map own from end bursts n s₀ i₀ s i = n - i
+μ-loop map own from around n s₀ i₀ s i = n - i
 
 closed-requires : tie.Need-closed-requires Inv-loop μ-loop
 closed-requires c κs = search needs
@@ -38,7 +38,7 @@ returns : tie.Need-returns Inv-loop μ-loop
 returns c =
     let a = c .before .before .before .before .before .before .before .before .before .before .args in
     let l = c .before .before .before .before .before .before .before .loop in
-    reached (a .own) (now (a .map)) (a .end) (a .bursts) (a .from) (l .i) (l .s) (l .inv .3) (head-stops (a .own) (now (a .map)) (a .end) (a .bursts) (a .from) (l .i) (l .s) _ (c .before .before .before .before .before .before .loop-test .taken) (c .before .before .before .before .before .read-at .ensures) (c .before .before .before .h .given .0 .0) (c .before .before .before .h .given .1)) (sym (c .before .fits2 .ensures) ∙ c .if1 .taken) (l .inv .2 .start) (l .inv .1)
+    reached (a .own) (now (a .map)) (a .around) (a .from) (l .i) (l .s) (l .inv .3) (head-stops (a .own) (now (a .map)) (a .around) (a .from) (l .i) (l .s) _ (c .before .before .before .before .before .before .loop-test .taken) (c .before .before .before .before .before .read-at .ensures) (c .before .before .before .h .given .0 .0) (c .before .before .before .h .given .1)) (sym (c .before .fits2 .ensures) ∙ c .if1 .taken) (l .inv .2 .start) (l .inv .1)
 
 opened-requires : tie.Need-opened-requires Inv-loop μ-loop
 opened-requires c κs = search needs
@@ -53,7 +53,7 @@ loop-again : tie.Need-loop-again Inv-loop μ-loop
 loop-again c =
     let a = c .before .before .before .before .before .before .before .before .before .before .before .args in
     let l = c .before .before .before .before .before .before .before .before .loop in
-    (omega (arith, l .inv .0), omega (arith, c .before .before .before .before .before .before .before .loop-test .taken), c .opened .ensures .1, open-next (a .own) (now (a .map)) (a .end) (a .bursts) (a .from) (l .i) (l .s) _ (c .before .before .before .before .before .before .before .loop-test .taken) (c .before .before .before .before .before .before .read-at .ensures) (c .before .before .before .before .h .given .0 .0) _ (c .before .before .before .before .h .given .1) (c .opened .ensures .0) (l .inv .0) (l .inv .3) (sym (c .before .before .fits2 .ensures) ∙ c .before .if1 .left))
+    (omega (arith, l .inv .0), omega (arith, c .before .before .before .before .before .before .before .loop-test .taken), c .opened .ensures .1, open-next (a .own) (now (a .map)) (a .around) (a .from) (l .i) (l .s) _ (c .before .before .before .before .before .before .before .loop-test .taken) (c .before .before .before .before .before .before .read-at .ensures) (c .before .before .before .before .h .given .0 .0) _ (c .before .before .before .before .h .given .1) (c .opened .ensures .0) (l .inv .0) (l .inv .3) (sym (c .before .before .fits2 .ensures) ∙ c .before .if1 .left))
 
 enum-known-a : tie.Need-enum-known-a Inv-loop μ-loop
 enum-known-a c = search needs
@@ -74,7 +74,7 @@ loop-again-2 : tie.Need-loop-again-2 Inv-loop μ-loop
 loop-again-2 c =
     let a = c .before .before .before .before .before .before .before .before .before .before .before .args in
     let l = c .before .before .before .before .before .before .before .before .loop in
-    (omega (arith, l .inv .0), omega (arith, c .before .before .before .before .before .before .before .loop-test .taken), c .joined .ensures .1, go-further (a .own) (now (a .map)) (a .end) (a .bursts) (a .from) (l .i) (l .s) _ (c .before .before .before .before .before .before .before .loop-test .taken) (c .before .before .before .before .before .before .read-at .ensures) (c .before .before .before .before .a .given .0 .0) _ (c .before .before .before .before .a .given .1) (c .joined .ensures .0) (sym (c .before .before .goes-on .ensures) ∙ c .before .if2 .taken) (l .inv .3))
+    (omega (arith, l .inv .0), omega (arith, c .before .before .before .before .before .before .before .loop-test .taken), c .joined .ensures .1, go-further (a .own) (now (a .map)) (a .around) (a .from) (l .i) (l .s) _ (c .before .before .before .before .before .before .before .loop-test .taken) (c .before .before .before .before .before .before .read-at .ensures) (c .before .before .before .before .a .given .0 .0) _ (c .before .before .before .before .a .given .1) (c .joined .ensures .0) (sym (c .before .before .goes-on .ensures) ∙ c .before .if2 .taken) (l .inv .3))
 
 fits-requires-2 : tie.Need-fits-requires-2 Inv-loop μ-loop
 fits-requires-2 c κs = search needs
@@ -83,7 +83,7 @@ returns-2 : tie.Need-returns-2 Inv-loop μ-loop
 returns-2 c =
     let a = c .before .before .before .before .before .before .before .before .before .before .before .before .args in
     let l = c .before .before .before .before .before .before .before .before .before .loop in
-    reached (a .own) (now (a .map)) (a .end) (a .bursts) (a .from) (l .i) (l .s) (l .inv .3) (more-stops (a .own) (now (a .map)) (a .end) (a .bursts) (a .from) (l .i) (l .s) _ (c .before .before .before .before .before .before .before .before .loop-test .taken) (c .before .before .before .before .before .before .before .read-at .ensures) (sym (c .before .before .before .goes-on .ensures) ∙ c .before .before .if2 .left)) (sym (c .before .fits3 .ensures) ∙ c .if3 .taken) (l .inv .2 .start) (l .inv .1)
+    reached (a .own) (now (a .map)) (a .around) (a .from) (l .i) (l .s) (l .inv .3) (more-stops (a .own) (now (a .map)) (a .around) (a .from) (l .i) (l .s) _ (c .before .before .before .before .before .before .before .before .loop-test .taken) (c .before .before .before .before .before .before .before .read-at .ensures) (sym (c .before .before .before .goes-on .ensures) ∙ c .before .before .if2 .left)) (sym (c .before .fits3 .ensures) ∙ c .if3 .taken) (l .inv .2 .start) (l .inv .1)
 
 closed-requires-2 : tie.Need-closed-requires-2 Inv-loop μ-loop
 closed-requires-2 c κs = search needs
@@ -98,7 +98,7 @@ loop-again-3 : tie.Need-loop-again-3 Inv-loop μ-loop
 loop-again-3 c =
     let a = c .before .before .before .before .before .before .before .before .before .before .before .before .before .args in
     let l = c .before .before .before .before .before .before .before .before .before .before .loop in
-    (omega (arith, l .inv .0), omega (arith, c .before .before .before .before .before .before .before .before .before .loop-test .taken), closed-modest _ (c .closed2 .ensures), pass-stray (a .own) (now (a .map)) (a .end) (a .bursts) (a .from) (l .i) (l .s) _ (c .before .before .before .before .before .before .before .before .before .loop-test .taken) (c .before .before .before .before .before .before .before .before .read-at .ensures) (c .before .before .before .before .before .before .a .given .0 .0) _ (c .before .before .before .before .before .before .a .given .1) (c .closed2 .ensures) (sym (c .before .before .before .before .goes-on .ensures) ∙ c .before .before .before .if2 .left) (l .inv .3) (sym (c .before .before .fits3 .ensures) ∙ c .before .if3 .left))
+    (omega (arith, l .inv .0), omega (arith, c .before .before .before .before .before .before .before .before .before .loop-test .taken), closed-modest _ (c .closed2 .ensures), pass-stray (a .own) (now (a .map)) (a .around) (a .from) (l .i) (l .s) _ (c .before .before .before .before .before .before .before .before .before .loop-test .taken) (c .before .before .before .before .before .before .before .before .read-at .ensures) (c .before .before .before .before .before .before .a .given .0 .0) _ (c .before .before .before .before .before .before .a .given .1) (c .closed2 .ensures) (sym (c .before .before .before .before .goes-on .ensures) ∙ c .before .before .before .if2 .left) (l .inv .3) (sym (c .before .before .fits3 .ensures) ∙ c .before .if3 .left))
 
 enum-told : tie.Need-enum-told Inv-loop μ-loop
 enum-told c = search needs
@@ -110,7 +110,7 @@ returns-3 : tie.Need-returns-3 Inv-loop μ-loop
 returns-3 c =
     let a = c .before .before .before .before .before .before .before .before .before .args in
     let l = c .before .before .before .before .before .before .loop in
-    reached (a .own) (now (a .map)) (a .end) (a .bursts) (a .from) (l .i) (l .s) (l .inv .3) (apart-stops (a .own) (now (a .map)) (a .end) (a .bursts) (a .from) (l .i) (l .s) _ (c .before .before .before .before .before .loop-test .taken) (c .before .before .before .before .read-at .ensures) _ (c .before .before .enum-told .given .1)) (sym (c .before .fits4 .ensures) ∙ c .if4 .taken) (l .inv .2 .start) (l .inv .1)
+    reached (a .own) (now (a .map)) (a .around) (a .from) (l .i) (l .s) (l .inv .3) (apart-stops (a .own) (now (a .map)) (a .around) (a .from) (l .i) (l .s) _ (c .before .before .before .before .before .loop-test .taken) (c .before .before .before .before .read-at .ensures) _ (c .before .before .enum-told .given .1)) (sym (c .before .fits4 .ensures) ∙ c .if4 .taken) (l .inv .2 .start) (l .inv .1)
 
 closed-requires-3 : tie.Need-closed-requires-3 Inv-loop μ-loop
 closed-requires-3 c κs = search needs
@@ -125,7 +125,7 @@ loop-again-4 : tie.Need-loop-again-4 Inv-loop μ-loop
 loop-again-4 c =
     let a = c .before .before .before .before .before .before .before .before .before .before .args in
     let l = c .before .before .before .before .before .before .before .loop in
-    (omega (arith, l .inv .0), omega (arith, c .before .before .before .before .before .before .loop-test .taken), closed-modest _ (c .closed3 .ensures), pass-by (a .own) (now (a .map)) (a .end) (a .bursts) (a .from) (l .i) (l .s) _ (c .before .before .before .before .before .before .loop-test .taken) (c .before .before .before .before .before .read-at .ensures) _ _ (c .before .before .before .enum-told .given .1) (c .closed3 .ensures) (l .inv .3) (sym (c .before .before .fits4 .ensures) ∙ c .before .if4 .left))
+    (omega (arith, l .inv .0), omega (arith, c .before .before .before .before .before .before .loop-test .taken), closed-modest _ (c .closed3 .ensures), pass-by (a .own) (now (a .map)) (a .around) (a .from) (l .i) (l .s) _ (c .before .before .before .before .before .before .loop-test .taken) (c .before .before .before .before .before .read-at .ensures) _ _ (c .before .before .before .enum-told .given .1) (c .closed3 .ensures) (l .inv .3) (sym (c .before .before .fits4 .ensures) ∙ c .before .if4 .left))
 
 fits-requires-4 : tie.Need-fits-requires-4 Inv-loop μ-loop
 fits-requires-4 c κs = search needs
@@ -134,13 +134,13 @@ returns-4 : tie.Need-returns-4 Inv-loop μ-loop
 returns-4 c =
     let a = c .before .before .before .before .before .before .args in
     let l = c .before .before .before .loop in
-    reached (a .own) (now (a .map)) (a .end) (a .bursts) (a .from) (l .i) (l .s) (l .inv .3) (ended (a .own) (now (a .map)) (a .end) (a .bursts) (a .from) (l .i) (l .s) (c .before .before .loop-test .left)) (sym (c .before .fits5 .ensures) ∙ c .if5 .taken) (l .inv .2 .start) (l .inv .1)
+    reached (a .own) (now (a .map)) (a .around) (a .from) (l .i) (l .s) (l .inv .3) (ended (a .own) (now (a .map)) (a .around) (a .from) (l .i) (l .s) (c .before .before .loop-test .left)) (sym (c .before .fits5 .ensures) ∙ c .if5 .taken) (l .inv .2 .start) (l .inv .1)
 
 returns-5 : tie.Need-returns-5 Inv-loop μ-loop
 returns-5 c =
     let a = c .before .before .before .before .before .before .args in
     let l = c .before .before .before .loop in
-    none-left (a .own) (now (a .map)) (a .end) (a .bursts) (a .from) (l .i) (l .s) (l .inv .3) (c .before .before .loop-test .left) (sym (c .before .fits5 .ensures) ∙ c .if5 .left)
+    none-left (a .own) (now (a .map)) (a .around) (a .from) (l .i) (l .s) (l .inv .3) (c .before .before .loop-test .left) (sym (c .before .fits5 .ensures) ∙ c .if5 .left)
 
 pub next-planned-spec : {M : Type 1} → statement M
 next-planned-spec =

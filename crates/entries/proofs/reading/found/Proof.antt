@@ -4,7 +4,7 @@ use mathlib.Core.Path.{sym, ap, _∙_}
 use Rattle.hec.specs.declared.Reading64.{Reading64}
 use Rattle.hec.specs.Reads.{found64}
 use Rattle.xgtc.specs.Layouts.{allocationOf}
-use Rattle.framing.specs.Reads.{taken, fields}
+use Rattle.xgem.specs.Reads.{taken, fields}
 use borrow.Author.Needs.{needs}
 use Rattle.entries.proofs.reading.found.Statement.{statement}
 use Rattle.entries.proofs.reading.found.Tie as tie

@@ -7,9 +7,9 @@ use lib.ListN.{length, take}
 use borrow.Author.Tests.{le-leb}
 use Rattle.hec.specs.Reads.{reading, found64}
 use Rattle.hec.proofs.Nearest.{is-reading}
-use Rattle.framing.specs.Octets.{value}
+use Rattle.octets.specs.Octets.{value}
 use Rattle.xgtc.specs.Layouts.{allocationOf}
-use Rattle.framing.proofs.Steps.{read-short, read-found}
+use Rattle.xgem.proofs.Steps.{read-short, read-found}
 use borrow.Author.Needs.{needs}
 use Rattle.entries.proofs.reading.read_entry.Statement.{statement}
 use Rattle.entries.proofs.reading.read_entry.Tie as tie

@@ -9,14 +9,16 @@ use Prim.Native.Nat.{_+_, _-_, _*_, _≤_}
 use lib.ListN.{drop}
 use Rattle.layout.specs.KnownOctets.{answerKnown, eachKnown}
 use Rattle.layout.proofs.KnownOctets.{known-turn, known-end}
+use Rattle.link.specs.Limits.{mostOwed}
+use Rattle.layout.specs.Offsets.{answerWidth}
 use Rattle.layout.proofs.known.answers_known.Statement.{statement}
 use Rattle.layout.proofs.known.answers_known.Tie as tie
 
 abbrev Inv-loop : tie.InvT-loop
-Inv-loop c all₀ i₀ all i = (i ≤ 8) × ((all && eachKnown answerKnown 2 (8 - i) (drop (2 * i) c)) ≡ eachKnown answerKnown 2 8 c)
+Inv-loop c all₀ i₀ all i = (i ≤ mostOwed) × ((all && eachKnown answerKnown answerWidth (mostOwed - i) (drop (answerWidth * i) c)) ≡ eachKnown answerKnown answerWidth mostOwed c)
 
 abbrev μ-loop : tie.MeasureT-loop
-μ-loop c all₀ i₀ all i = 8 - i
+μ-loop c all₀ i₀ all i = mostOwed - i
 
 loop-holds : tie.Need-loop-holds Inv-loop μ-loop
 loop-holds c = (omega arith, refl)
@@ -40,10 +42,10 @@ loop-again : tie.Need-loop-again Inv-loop μ-loop
 loop-again c =
     let b = now (c .before .before .before .before .before .args .c) in
     let l = c .before .before .before .loop in
-    (omega arith, ap (λ (t : Bool). (l .all && t) && eachKnown answerKnown 2 (8 - (l .i + 1)) (drop (2 * (l .i + 1)) b)) (c .answer-known .ensures) ∙ known-turn answerKnown 2 8 (l .i) b (l .all) (2 * l .i) refl (omega arith) ∙ l .inv .1)
+    (omega arith, ap (λ (t : Bool). (l .all && t) && eachKnown answerKnown answerWidth (mostOwed - (l .i + 1)) (drop (answerWidth * (l .i + 1)) b)) (c .answer-known .ensures) ∙ known-turn answerKnown answerWidth mostOwed (l .i) b (l .all) (answerWidth * l .i) refl (omega arith) ∙ l .inv .1)
 
 returns : tie.Need-returns Inv-loop μ-loop
-returns c = known-end answerKnown 2 8 (c .before .loop .i) (now (c .before .before .before .args .c)) (c .before .loop .all) (omega arith) ∙ c .before .loop .inv .1
+returns c = known-end answerKnown answerWidth mostOwed (c .before .loop .i) (now (c .before .before .before .args .c)) (c .before .loop .all) (omega arith) ∙ c .before .loop .inv .1
 
 pub answers-known-spec : {M : Type 1} → statement M
 answers-known-spec =

@@ -6,7 +6,8 @@ use native.Mathlib.Omega.{arith}
 use denote.Ref.{now}
 use lib.ListN.{take}
 use Rattle.integrity.specs.Integrity.{same}
-use Rattle.layout.specs.Layout.{stateBytes, encoded, shown}
+use Rattle.layout.specs.Offsets.{stateBytes}
+use Rattle.layout.specs.Layout.{encoded, shown}
 use Rattle.layout.specs.KnownOctets.{octetsKnown}
 use Rattle.layout.proofs.KnownOctets.{octets-known}
 use borrow.Author.Needs.{needs}

@@ -10,17 +10,19 @@ use lib.Seq.{sets}
 use Rattle.layout.specs.Rows.{many}
 use Rattle.layout.proofs.Laws.{many-start, many-turn, many-end}
 use Rattle.layout.specs.Layout.{allocOf}
+use Rattle.link.specs.Limits.{addedAllocs}
+use Rattle.layout.specs.Offsets.{idWidth}
 use Rattle.layout.proofs.reading.alloc_ids_in.Statement.{statement}
 use Rattle.layout.proofs.reading.alloc_ids_in.Tie as tie
 
 abbrev Inv-loop : tie.InvT-loop
-Inv-loop c l₀ i₀ l i = (i ≤ 16) × (length l ≡ 16) × (sets l i (many allocOf 2 (16 - i) (drop (2 * i) c)) ≡ many allocOf 2 16 c)
+Inv-loop c l₀ i₀ l i = (i ≤ addedAllocs) × (length l ≡ addedAllocs) × (sets l i (many allocOf idWidth (addedAllocs - i) (drop (idWidth * i) c)) ≡ many allocOf idWidth addedAllocs c)
 
 abbrev μ-loop : tie.MeasureT-loop
-μ-loop c l₀ i₀ l i = 16 - i
+μ-loop c l₀ i₀ l i = addedAllocs - i
 
 loop-holds : tie.Need-loop-holds Inv-loop μ-loop
-loop-holds c = (omega arith, refl, many-start allocOf 2 16 (now (c .before .args .c)) (replicate 16 (record { 0 = 0 })) refl)
+loop-holds c = (omega arith, refl, many-start allocOf idWidth addedAllocs (now (c .before .args .c)) (replicate addedAllocs (record { 0 = 0 })) refl)
 
 mul-at : tie.Need-mul-at Inv-loop μ-loop
 mul-at c = search needs
@@ -53,10 +55,10 @@ loop-less : tie.Need-loop-less Inv-loop μ-loop
 loop-less c = search needs
 
 loop-again : tie.Need-loop-again Inv-loop μ-loop
-loop-again c = (omega arith, simp length-set (c .before .before .before .loop .inv .1), many-turn allocOf 2 16 (c .before .before .before .loop .i) (2 * c .before .before .before .loop .i) (now (c .before .before .before .before .before .args .c)) (c .before .before .before .loop .l) _ (omega arith) refl (ap (λ (z : ℕ). record { 0 = z }) (c .number16 .ensures)) ∙ c .before .before .before .loop .inv .2)
+loop-again c = (omega arith, simp length-set (c .before .before .before .loop .inv .1), many-turn allocOf idWidth addedAllocs (c .before .before .before .loop .i) (idWidth * c .before .before .before .loop .i) (now (c .before .before .before .before .before .args .c)) (c .before .before .before .loop .l) _ (omega arith) refl (ap (λ (z : ℕ). record { 0 = z }) (c .number16 .ensures)) ∙ c .before .before .before .loop .inv .2)
 
 returns : tie.Need-returns Inv-loop μ-loop
-returns c = many-end allocOf 2 16 (c .before .loop .i) (drop (2 * c .before .loop .i) (now (c .before .before .before .args .c))) (c .before .loop .l) (omega arith) ∙ c .before .loop .inv .2
+returns c = many-end allocOf idWidth addedAllocs (c .before .loop .i) (drop (idWidth * c .before .loop .i) (now (c .before .before .before .args .c))) (c .before .loop .l) (omega arith) ∙ c .before .loop .inv .2
 
 pub alloc-ids-in-spec : {M : Type 1} → statement M
 alloc-ids-in-spec =

@@ -11,17 +11,19 @@ use lib.Seq.{sets}
 use Rattle.layout.specs.Rows.{many}
 use Rattle.layout.proofs.Laws.{many-start, many-turn, many-end}
 use Rattle.layout.specs.Layout.{owedOf}
+use Rattle.link.specs.Limits.{mostOwed}
+use Rattle.layout.specs.Offsets.{answerWidth}
 use Rattle.layout.proofs.reading.answers_in.Statement.{statement}
 use Rattle.layout.proofs.reading.answers_in.Tie as tie
 
 abbrev Inv-loop : tie.InvT-loop
-Inv-loop c l₀ i₀ l i = (i ≤ 8) × (length l ≡ 8) × (sets l i (many owedOf 2 (8 - i) (drop (2 * i) c)) ≡ many owedOf 2 8 c)
+Inv-loop c l₀ i₀ l i = (i ≤ mostOwed) × (length l ≡ mostOwed) × (sets l i (many owedOf answerWidth (mostOwed - i) (drop (answerWidth * i) c)) ≡ many owedOf answerWidth mostOwed c)
 
 abbrev μ-loop : tie.MeasureT-loop
-μ-loop c l₀ i₀ l i = 8 - i
+μ-loop c l₀ i₀ l i = mostOwed - i
 
 loop-holds : tie.Need-loop-holds Inv-loop μ-loop
-loop-holds c = (omega arith, refl, many-start owedOf 2 8 (now (c .before .args .c)) (replicate 8 blank) refl)
+loop-holds c = (omega arith, refl, many-start owedOf answerWidth mostOwed (now (c .before .args .c)) (replicate mostOwed blank) refl)
 
 mul-at : tie.Need-mul-at Inv-loop μ-loop
 mul-at c = search needs
@@ -54,10 +56,10 @@ loop-less : tie.Need-loop-less Inv-loop μ-loop
 loop-less c = search needs
 
 loop-again : tie.Need-loop-again Inv-loop μ-loop
-loop-again c = (omega arith, simp length-set (c .before .before .before .loop .inv .1), many-turn owedOf 2 8 (c .before .before .before .loop .i) (2 * c .before .before .before .loop .i) (now (c .before .before .before .before .before .args .c)) (c .before .before .before .loop .l) _ (omega arith) refl (c .owed-in .ensures) ∙ c .before .before .before .loop .inv .2)
+loop-again c = (omega arith, simp length-set (c .before .before .before .loop .inv .1), many-turn owedOf answerWidth mostOwed (c .before .before .before .loop .i) (answerWidth * c .before .before .before .loop .i) (now (c .before .before .before .before .before .args .c)) (c .before .before .before .loop .l) _ (omega arith) refl (c .owed-in .ensures) ∙ c .before .before .before .loop .inv .2)
 
 returns : tie.Need-returns Inv-loop μ-loop
-returns c = many-end owedOf 2 8 (c .before .loop .i) (drop (2 * c .before .loop .i) (now (c .before .before .before .args .c))) (c .before .loop .l) (omega arith) ∙ c .before .loop .inv .2
+returns c = many-end owedOf answerWidth mostOwed (c .before .loop .i) (drop (answerWidth * c .before .loop .i) (now (c .before .before .before .args .c))) (c .before .loop .l) (omega arith) ∙ c .before .loop .inv .2
 
 pub answers-in-spec : {M : Type 1} → statement M
 answers-in-spec =

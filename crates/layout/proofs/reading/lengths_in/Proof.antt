@@ -9,18 +9,20 @@ use lib.ListN.{length, drop, replicate, length-set, length-take, length-drop}
 use lib.Seq.{sets}
 use Rattle.layout.specs.Rows.{many}
 use Rattle.layout.proofs.Laws.{many-start, many-turn, many-end}
-use Rattle.framing.specs.Octets.{value}
+use Rattle.octets.specs.Octets.{value}
+use Rattle.ports.specs.Limits.{slots}
+use Rattle.layout.specs.Offsets.{lengthWidth}
 use Rattle.layout.proofs.reading.lengths_in.Statement.{statement}
 use Rattle.layout.proofs.reading.lengths_in.Tie as tie
 
 abbrev Inv-loop : tie.InvT-loop
-Inv-loop c l₀ i₀ l i = (i ≤ 17) × (length l ≡ 17) × (sets l i (many value 2 (17 - i) (drop (2 * i) c)) ≡ many value 2 17 c)
+Inv-loop c l₀ i₀ l i = (i ≤ slots) × (length l ≡ slots) × (sets l i (many value lengthWidth (slots - i) (drop (lengthWidth * i) c)) ≡ many value lengthWidth slots c)
 
 abbrev μ-loop : tie.MeasureT-loop
-μ-loop c l₀ i₀ l i = 17 - i
+μ-loop c l₀ i₀ l i = slots - i
 
 loop-holds : tie.Need-loop-holds Inv-loop μ-loop
-loop-holds c = (omega arith, refl, many-start value 2 17 (now (c .before .args .c)) (replicate 17 0) refl)
+loop-holds c = (omega arith, refl, many-start value lengthWidth slots (now (c .before .args .c)) (replicate slots 0) refl)
 
 mul-at : tie.Need-mul-at Inv-loop μ-loop
 mul-at c = search needs
@@ -53,10 +55,10 @@ loop-less : tie.Need-loop-less Inv-loop μ-loop
 loop-less c = search needs
 
 loop-again : tie.Need-loop-again Inv-loop μ-loop
-loop-again c = (omega arith, simp length-set (c .before .before .before .loop .inv .1), many-turn value 2 17 (c .before .before .before .loop .i) (2 * c .before .before .before .loop .i) (now (c .before .before .before .before .before .args .c)) (c .before .before .before .loop .l) _ (omega arith) refl (c .number16 .ensures) ∙ c .before .before .before .loop .inv .2)
+loop-again c = (omega arith, simp length-set (c .before .before .before .loop .inv .1), many-turn value lengthWidth slots (c .before .before .before .loop .i) (lengthWidth * c .before .before .before .loop .i) (now (c .before .before .before .before .before .args .c)) (c .before .before .before .loop .l) _ (omega arith) refl (c .number16 .ensures) ∙ c .before .before .before .loop .inv .2)
 
 returns : tie.Need-returns Inv-loop μ-loop
-returns c = many-end value 2 17 (c .before .loop .i) (drop (2 * c .before .loop .i) (now (c .before .before .before .args .c))) (c .before .loop .l) (omega arith) ∙ c .before .loop .inv .2
+returns c = many-end value lengthWidth slots (c .before .loop .i) (drop (lengthWidth * c .before .loop .i) (now (c .before .before .before .args .c))) (c .before .loop .l) (omega arith) ∙ c .before .loop .inv .2
 
 pub lengths-in-spec : {M : Type 1} → statement M
 lengths-in-spec =

@@ -12,17 +12,19 @@ use Rattle.layout.specs.Rows.{many}
 use Rattle.layout.proofs.Laws.{many-start, many-turn, many-end}
 use Rattle.layout.specs.Layout.{markOf}
 use lib.Dec.{eqb}
+use Rattle.ports.specs.Limits.{slots}
+use Rattle.layout.specs.Offsets.{markWidth}
 use Rattle.layout.proofs.reading.marks_in.Statement.{statement}
 use Rattle.layout.proofs.reading.marks_in.Tie as tie
 
 abbrev Inv-loop : tie.InvT-loop
-Inv-loop c l₀ i₀ l i = (i ≤ 17) × (length l ≡ 17) × (sets l i (many markOf 1 (17 - i) (drop (1 * i) c)) ≡ many markOf 1 17 c)
+Inv-loop c l₀ i₀ l i = (i ≤ slots) × (length l ≡ slots) × (sets l i (many markOf markWidth (slots - i) (drop (markWidth * i) c)) ≡ many markOf markWidth slots c)
 
 abbrev μ-loop : tie.MeasureT-loop
-μ-loop c l₀ i₀ l i = 17 - i
+μ-loop c l₀ i₀ l i = slots - i
 
 loop-holds : tie.Need-loop-holds Inv-loop μ-loop
-loop-holds c = (omega arith, refl, many-start markOf 1 17 (now (c .before .args .c)) (replicate 17 false) refl)
+loop-holds c = (omega arith, refl, many-start markOf markWidth slots (now (c .before .args .c)) (replicate slots false) refl)
 
 add-end : tie.Need-add-end Inv-loop μ-loop
 add-end c = search needs
@@ -49,10 +51,10 @@ loop-less : tie.Need-loop-less Inv-loop μ-loop
 loop-less c = search needs
 
 loop-again : tie.Need-loop-again Inv-loop μ-loop
-loop-again c = (omega arith, simp length-set (c .before .before .before .loop .inv .1), many-turn markOf 1 17 (c .before .before .before .loop .i) (c .before .before .before .loop .i) (now (c .before .before .before .before .before .args .c)) (c .before .before .before .loop .l) _ (omega arith) (omega arith) (ap (λ (z : ℕ). eqb z 1) (c .number8 .ensures)) ∙ c .before .before .before .loop .inv .2)
+loop-again c = (omega arith, simp length-set (c .before .before .before .loop .inv .1), many-turn markOf markWidth slots (c .before .before .before .loop .i) (c .before .before .before .loop .i) (now (c .before .before .before .before .before .args .c)) (c .before .before .before .loop .l) _ (omega arith) (omega arith) (ap (λ (z : ℕ). eqb z 1) (c .number8 .ensures)) ∙ c .before .before .before .loop .inv .2)
 
 returns : tie.Need-returns Inv-loop μ-loop
-returns c = many-end markOf 1 17 (c .before .loop .i) (drop (1 * c .before .loop .i) (now (c .before .before .before .args .c))) (c .before .loop .l) (omega arith) ∙ c .before .loop .inv .2
+returns c = many-end markOf markWidth slots (c .before .loop .i) (drop (markWidth * c .before .loop .i) (now (c .before .before .before .args .c))) (c .before .loop .l) (omega arith) ∙ c .before .loop .inv .2
 
 pub marks-in-spec : {M : Type 1} → statement M
 marks-in-spec =

@@ -5,12 +5,13 @@ use native.Mathlib.Omega.{arith}
 use denote.Ref.{now}
 use mathlib.Core.List.{List, _++_}
 use Prim.Native.Nat.{ℕ}
-use Rattle.framing.specs.Octets.{octets}
-use Rattle.framing.specs.Writes.{put}
+use Rattle.octets.specs.Octets.{octets}
+use Rattle.xgem.specs.Writes.{put}
 use Rattle.layout.proofs.Laws.{behind, joined, one-octet}
 use Rattle.station.specs.States.{stateNumber}
 use Rattle.layout.specs.Layout.{timeLeft}
 use borrow.Author.Needs.{needs}
+use Rattle.layout.specs.Offsets.{numberWidth, timeWidth, timeAt}
 use Rattle.layout.proofs.writing.put_activation.Statement.{statement}
 use Rattle.layout.proofs.writing.put_activation.Tie as tie
 
@@ -42,7 +43,7 @@ returns : tie.Need-returns
 returns c =
     let t = now (c .before .before .before .before .before .before .before .before .before .before .before .args .out) in
     let a = c .before .before .before .before .before .before .before .before .before .before .before .args .a in
-    behind t (octets 1 (stateNumber a)) (octets 4 (timeLeft a)) _ _ _ 1 4 refl refl (c .before .before .before .before .before .before .before .before .before .before .before .pre) (c .before .before .before .before .before .before .before .put8 .ensures ∙ ap (λ (n : ℕ). put t (octets 1 n)) (c .before .before .before .before .before .before .before .before .before .number .ensures)) (ap (octets 4) (c .before .before .before .before .time-left .ensures)) (c .before .before .put32 .ensures)
+    behind t (octets numberWidth (stateNumber a)) (octets timeWidth (timeLeft a)) _ _ _ timeAt timeWidth refl refl (c .before .before .before .before .before .before .before .before .before .before .before .pre) (c .before .before .before .before .before .before .before .put8 .ensures ∙ ap (λ (n : ℕ). put t (octets numberWidth n)) (c .before .before .before .before .before .before .before .before .before .number .ensures)) (ap (octets timeWidth) (c .before .before .before .before .time-left .ensures)) (c .before .before .put32 .ensures)
 
 pub put-activation-spec : {M : Type 1} → statement M
 put-activation-spec =

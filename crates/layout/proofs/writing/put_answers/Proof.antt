@@ -11,14 +11,16 @@ use lib.Seq.{sets}
 use Rattle.layout.specs.Rows.{each}
 use Rattle.layout.specs.Layout.{owedOctets}
 use Rattle.layout.proofs.Laws.{two-same, each-one, each-two, each-end, each-length, put-of}
+use Rattle.link.specs.Limits.{mostOwed}
+use Rattle.layout.specs.Offsets.{answerWidth}
 use Rattle.layout.proofs.writing.put_answers.Statement.{statement}
 use Rattle.layout.proofs.writing.put_answers.Tie as tie
 
 abbrev Inv-loop : tie.InvT-loop
-Inv-loop out₀ l i₀ out i = (i ≤ 8) × (length l ≡ 8) × (length out ≡ length out₀) × (sets out (2 * i) (each owedOctets (drop i l)) ≡ sets out₀ 0 (each owedOctets l))
+Inv-loop out₀ l i₀ out i = (i ≤ mostOwed) × (length l ≡ mostOwed) × (length out ≡ length out₀) × (sets out (answerWidth * i) (each owedOctets (drop i l)) ≡ sets out₀ 0 (each owedOctets l))
 
 abbrev μ-loop : tie.MeasureT-loop
-μ-loop out₀ l i₀ out i = 8 - i
+μ-loop out₀ l i₀ out i = mostOwed - i
 
 loop-holds : tie.Need-loop-holds Inv-loop μ-loop
 loop-holds c = (omega arith, search needs, refl, refl)
@@ -51,7 +53,7 @@ loop-less : tie.Need-loop-less Inv-loop μ-loop
 loop-less c = search needs
 
 loop-again : tie.Need-loop-again Inv-loop μ-loop
-loop-again c = (omega arith, c .before .before .before .loop .inv .1, simp length-set (c .before .before .before .loop .inv .2), each-two owedOctets (c .before .before .before .before .before .args .t1) (c .before .before .before .loop .i) _ (omega arith) (c .before .before .before .loop .out) (2 * c .before .before .before .loop .i) _ _ refl (two-same (sym (c .response-number .ensures .0)) refl) ∙ c .before .before .before .loop .inv .3)
+loop-again c = (omega arith, c .before .before .before .loop .inv .1, simp length-set (c .before .before .before .loop .inv .2), each-two owedOctets (c .before .before .before .before .before .args .t1) (c .before .before .before .loop .i) _ (omega arith) (c .before .before .before .loop .out) (answerWidth * c .before .before .before .loop .i) _ _ refl (two-same (sym (c .response-number .ensures .0)) refl) ∙ c .before .before .before .loop .inv .3)
 
 same-length : tie.Need-same-length Inv-loop μ-loop
 same-length c = c .before .loop .inv .2
@@ -59,8 +61,8 @@ same-length c = c .before .loop .inv .2
 returns : tie.Need-returns Inv-loop μ-loop
 returns c =
     let l = c .before .before .before .args .t1 in (
-      each-end owedOctets l (c .before .loop .i) (2 * c .before .loop .i) (c .before .loop .out) (omega arith) ∙ c .before .loop .inv .3 ∙ put-of (each owedOctets l) (now (c .before .before .before .args .out)) (omega (arith, c .before .before .before .pre, c .before .loop .inv .1, each-length owedOctets 2 (λ a. refl) l)),
-      each-length owedOctets 2 (λ a. refl) l ∙ ap (λ (n : ℕ). 2 * n) (c .before .loop .inv .1),
+      each-end owedOctets l (c .before .loop .i) (answerWidth * c .before .loop .i) (c .before .loop .out) (omega arith) ∙ c .before .loop .inv .3 ∙ put-of (each owedOctets l) (now (c .before .before .before .args .out)) (omega (arith, c .before .before .before .pre, c .before .loop .inv .1, each-length owedOctets answerWidth (λ a. refl) l)),
+      each-length owedOctets answerWidth (λ a. refl) l ∙ ap (λ (n : ℕ). answerWidth * n) (c .before .loop .inv .1),
     )
 
 pub put-answers-spec : {M : Type 1} → statement M

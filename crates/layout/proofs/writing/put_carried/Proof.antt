@@ -3,13 +3,14 @@
 use mathlib.Core.Path.{_≡_, refl, sym, ap, _∙_}
 use native.Mathlib.Omega.{arith}
 use denote.Ref.{now}
-use mathlib.Core.List.{List, _++_}
+use mathlib.Core.List.{List}
 use Prim.Native.Nat.{ℕ}
-use Rattle.framing.specs.Octets.{octets}
-use Rattle.framing.specs.Writes.{put}
-use Rattle.layout.proofs.Laws.{behind, joined, one-octet}
+use Rattle.octets.specs.Octets.{octets}
+use Rattle.xgem.specs.Writes.{put}
+use Rattle.layout.proofs.Laws.{behind}
 use lib.ListN.{length}
 use borrow.Author.Needs.{needs}
+use Rattle.layout.specs.Offsets.{wordsWidth, reservedWidth}
 use Rattle.layout.proofs.writing.put_carried.Statement.{statement}
 use Rattle.layout.proofs.writing.put_carried.Tie as tie
 
@@ -35,12 +36,9 @@ returns : tie.Need-returns
 returns c =
     let t = now (c .before .before .before .before .before .before .before .before .before .args .out) in
     let e1 = c .before .before .before .before .before .before .put16 .ensures in
-    let p1 : List ℕ = octets 2 (c .before .before .before .before .before .before .before .before .before .args .words) in
-    let l1 : length p1 ≡ 2 = refl in
-    let e2 = behind t p1 (octets 1 0) _ _ _ 2 1 l1 refl (omega (arith, c .before .before .before .before .before .before .before .before .before .pre)) e1 refl (c .before .before .put8 .ensures) in
-    let p2 : List ℕ = p1 ++ (octets 1 0) in
-    let l2 : length p2 ≡ 3 = joined p1 (octets 1 0) 2 1 l1 refl in
-    e2
+    let p1 : List ℕ = octets wordsWidth (c .before .before .before .before .before .before .before .before .before .args .words) in
+    let l1 : length p1 ≡ wordsWidth = refl in
+    behind t p1 (octets reservedWidth 0) _ _ _ wordsWidth reservedWidth l1 refl (omega (arith, c .before .before .before .before .before .before .before .before .before .pre)) e1 refl (c .before .before .put8 .ensures)
 
 pub put-carried-spec : {M : Type 1} → statement M
 put-carried-spec =

@@ -5,12 +5,14 @@ use native.Mathlib.Omega.{arith}
 use denote.Ref.{now}
 use mathlib.Core.List.{List, _++_}
 use Prim.Native.Nat.{ℕ}
-use Rattle.framing.specs.Octets.{octets}
-use Rattle.framing.specs.Writes.{put}
+use Rattle.octets.specs.Octets.{octets}
+use Rattle.xgem.specs.Writes.{put}
 use Rattle.layout.proofs.Laws.{behind, joined, one-octet}
 use lib.ListN.{length}
 use Rattle.layout.specs.Layout.{activationOctets}
 use borrow.Author.Needs.{needs}
+use Rattle.station.specs.Limits.{serialOctets, registrationOctets}
+use Rattle.layout.specs.Offsets.{serialAt, registrationAt, linkAt}
 use Rattle.layout.proofs.writing.put_identity.Statement.{statement}
 use Rattle.layout.proofs.writing.put_identity.Tie as tie
 
@@ -49,13 +51,13 @@ returns c =
     let t = now (c .before .before .before .before .before .before .before .before .before .before .before .before .before .args .out) in
     let e1 = c .before .before .before .before .before .before .before .before .before .before .put-activation .ensures in
     let p1 : List ℕ = activationOctets (c .before .before .before .before .before .before .before .before .before .before .before .before .before .args .a) in
-    let l1 : length p1 ≡ 5 = refl in
-    let e2 = behind t p1 (c .before .before .before .before .before .before .before .before .before .before .before .before .before .args .serial) _ _ _ 5 8 l1 (c .before .before .before .before .before .before .put-octets8 .ensures .1) (omega (arith, c .before .before .before .before .before .before .before .before .before .before .before .before .before .pre)) e1 refl (c .before .before .before .before .before .before .put-octets8 .ensures .0) in
+    let l1 : length p1 ≡ serialAt = refl in
+    let e2 = behind t p1 (c .before .before .before .before .before .before .before .before .before .before .before .before .before .args .serial) _ _ _ serialAt serialOctets l1 (c .before .before .before .before .before .before .put-octets8 .ensures .1) (omega (arith, c .before .before .before .before .before .before .before .before .before .before .before .before .before .pre)) e1 refl (c .before .before .before .before .before .before .put-octets8 .ensures .0) in
     let p2 : List ℕ = p1 ++ (c .before .before .before .before .before .before .before .before .before .before .before .before .before .args .serial) in
-    let l2 : length p2 ≡ 13 = joined p1 (c .before .before .before .before .before .before .before .before .before .before .before .before .before .args .serial) 5 8 l1 (c .before .before .before .before .before .before .put-octets8 .ensures .1) in
-    let e3 = behind t p2 (c .before .before .before .before .before .before .before .before .before .before .before .before .before .args .registration) _ _ _ 13 36 l2 (c .before .before .put-octets36 .ensures .1) (omega (arith, c .before .before .before .before .before .before .before .before .before .before .before .before .before .pre)) e2 refl (c .before .before .put-octets36 .ensures .0) in
+    let l2 : length p2 ≡ registrationAt = joined p1 (c .before .before .before .before .before .before .before .before .before .before .before .before .before .args .serial) serialAt serialOctets l1 (c .before .before .before .before .before .before .put-octets8 .ensures .1) in
+    let e3 = behind t p2 (c .before .before .before .before .before .before .before .before .before .before .before .before .before .args .registration) _ _ _ registrationAt registrationOctets l2 (c .before .before .put-octets36 .ensures .1) (omega (arith, c .before .before .before .before .before .before .before .before .before .before .before .before .before .pre)) e2 refl (c .before .before .put-octets36 .ensures .0) in
     let p3 : List ℕ = p2 ++ (c .before .before .before .before .before .before .before .before .before .before .before .before .before .args .registration) in
-    let l3 : length p3 ≡ 49 = joined p2 (c .before .before .before .before .before .before .before .before .before .before .before .before .before .args .registration) 13 36 l2 (c .before .before .put-octets36 .ensures .1) in
+    let l3 : length p3 ≡ linkAt = joined p2 (c .before .before .before .before .before .before .before .before .before .before .before .before .before .args .registration) registrationAt registrationOctets l2 (c .before .before .put-octets36 .ensures .1) in
     (e3, l3)
 
 pub put-identity-spec : {M : Type 1} → statement M

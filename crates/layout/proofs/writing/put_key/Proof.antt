@@ -5,11 +5,13 @@ use native.Mathlib.Omega.{arith}
 use denote.Ref.{now}
 use mathlib.Core.List.{List, _++_}
 use Prim.Native.Nat.{ℕ}
-use Rattle.framing.specs.Octets.{octets}
-use Rattle.framing.specs.Writes.{put}
+use Rattle.octets.specs.Octets.{octets}
+use Rattle.xgem.specs.Writes.{put}
 use Rattle.layout.proofs.Laws.{behind, joined, one-octet}
 use Rattle.layout.specs.Layout.{markNumber}
 use borrow.Author.Needs.{needs}
+use Rattle.link.specs.Limits.{keyOctets}
+use Rattle.layout.specs.Offsets.{markWidth, keyOctetsAt}
 use Rattle.layout.proofs.writing.put_key.Statement.{statement}
 use Rattle.layout.proofs.writing.put_key.Tie as tie
 
@@ -38,8 +40,8 @@ returns : tie.Need-returns
 returns c =
     let t = now (c .before .before .before .before .before .before .before .before .before .before .before .args .out) in
     let x = c .before .before .before .before .before .before .before .before .before .before .before .args .k in (
-      behind t (octets 1 (markNumber (x .held))) (x .octets) _ _ _ 1 16 refl (c .before .before .put-octets16 .ensures .1) (c .before .before .before .before .before .before .before .before .before .before .before .pre) (c .before .before .before .before .before .before .put8 .ensures ∙ ap (λ (n : ℕ). put t (octets 1 n)) (c .before .before .before .before .before .before .before .before .mark .ensures)) refl (c .before .before .put-octets16 .ensures .0),
-      joined (octets 1 (markNumber (x .held))) (x .octets) 1 16 refl (c .before .before .put-octets16 .ensures .1),
+      behind t (octets markWidth (markNumber (x .held))) (x .octets) _ _ _ keyOctetsAt keyOctets refl (c .before .before .put-octets16 .ensures .1) (c .before .before .before .before .before .before .before .before .before .before .before .pre) (c .before .before .before .before .before .before .put8 .ensures ∙ ap (λ (n : ℕ). put t (octets markWidth n)) (c .before .before .before .before .before .before .before .before .mark .ensures)) refl (c .before .before .put-octets16 .ensures .0),
+      joined (octets markWidth (markNumber (x .held))) (x .octets) keyOctetsAt keyOctets refl (c .before .before .put-octets16 .ensures .1),
     )
 
 pub put-key-spec : {M : Type 1} → statement M

@@ -5,12 +5,13 @@ use native.Mathlib.Omega.{arith}
 use denote.Ref.{now}
 use mathlib.Core.List.{List, _++_}
 use Prim.Native.Nat.{ℕ}
-use Rattle.framing.specs.Octets.{octets}
-use Rattle.framing.specs.Writes.{put}
+use Rattle.octets.specs.Octets.{octets}
+use Rattle.xgem.specs.Writes.{put}
 use Rattle.layout.proofs.Laws.{behind, joined, one-octet}
 use lib.ListN.{length}
 use Rattle.layout.specs.Layout.{allocsOctets, keyOctets, queueOctets}
 use borrow.Author.Needs.{needs}
+use Rattle.layout.specs.Offsets.{idWidth, allocsAt, allocsWidth, delayAt, delayWidth, keyAt, keyWidth, queueAt, queueWidth, linkWidth}
 use Rattle.layout.proofs.writing.put_link.Statement.{statement}
 use Rattle.layout.proofs.writing.put_link.Tie as tie
 
@@ -72,20 +73,20 @@ returns : tie.Need-returns
 returns c =
     let t = now (c .before .before .before .before .before .before .before .before .before .before .before .before .before .before .before .before .before .before .before .before .before .before .before .before .before .args .out) in
     let e1 = c .before .before .before .before .before .before .before .before .before .before .before .before .before .before .before .before .before .before .put16 .ensures in
-    let p1 : List ℕ = octets 2 (c .before .before .before .before .before .before .before .before .before .before .before .before .before .before .before .before .before .before .before .before .before .before .before .before .before .args .l .onu .0) in
-    let l1 : length p1 ≡ 2 = refl in
-    let e2 = behind t p1 (allocsOctets (c .before .before .before .before .before .before .before .before .before .before .before .before .before .before .before .before .before .before .before .before .before .before .before .before .before .args .l .allocs)) _ _ _ 2 33 l1 (c .before .before .before .before .before .before .before .before .before .before .before .before .before .before .put-allocs .ensures .1) (omega (arith, c .before .before .before .before .before .before .before .before .before .before .before .before .before .before .before .before .before .before .before .before .before .before .before .before .before .pre)) e1 refl (c .before .before .before .before .before .before .before .before .before .before .before .before .before .before .put-allocs .ensures .0) in
+    let p1 : List ℕ = octets idWidth (c .before .before .before .before .before .before .before .before .before .before .before .before .before .before .before .before .before .before .before .before .before .before .before .before .before .args .l .onu .0) in
+    let l1 : length p1 ≡ allocsAt = refl in
+    let e2 = behind t p1 (allocsOctets (c .before .before .before .before .before .before .before .before .before .before .before .before .before .before .before .before .before .before .before .before .before .before .before .before .before .args .l .allocs)) _ _ _ allocsAt allocsWidth l1 (c .before .before .before .before .before .before .before .before .before .before .before .before .before .before .put-allocs .ensures .1) (omega (arith, c .before .before .before .before .before .before .before .before .before .before .before .before .before .before .before .before .before .before .before .before .before .before .before .before .before .pre)) e1 refl (c .before .before .before .before .before .before .before .before .before .before .before .before .before .before .put-allocs .ensures .0) in
     let p2 : List ℕ = p1 ++ (allocsOctets (c .before .before .before .before .before .before .before .before .before .before .before .before .before .before .before .before .before .before .before .before .before .before .before .before .before .args .l .allocs)) in
-    let l2 : length p2 ≡ 35 = joined p1 (allocsOctets (c .before .before .before .before .before .before .before .before .before .before .before .before .before .before .before .before .before .before .before .before .before .before .before .before .before .args .l .allocs)) 2 33 l1 (c .before .before .before .before .before .before .before .before .before .before .before .before .before .before .put-allocs .ensures .1) in
-    let e3 = behind t p2 (octets 4 (c .before .before .before .before .before .before .before .before .before .before .before .before .before .before .before .before .before .before .before .before .before .before .before .before .before .args .l .delay)) _ _ _ 35 4 l2 refl (omega (arith, c .before .before .before .before .before .before .before .before .before .before .before .before .before .before .before .before .before .before .before .before .before .before .before .before .before .pre)) e2 refl (c .before .before .before .before .before .before .before .before .before .before .put32 .ensures) in
-    let p3 : List ℕ = p2 ++ (octets 4 (c .before .before .before .before .before .before .before .before .before .before .before .before .before .before .before .before .before .before .before .before .before .before .before .before .before .args .l .delay)) in
-    let l3 : length p3 ≡ 39 = joined p2 (octets 4 (c .before .before .before .before .before .before .before .before .before .before .before .before .before .before .before .before .before .before .before .before .before .before .before .before .before .args .l .delay)) 35 4 l2 refl in
-    let e4 = behind t p3 (keyOctets (c .before .before .before .before .before .before .before .before .before .before .before .before .before .before .before .before .before .before .before .before .before .before .before .before .before .args .l .key)) _ _ _ 39 17 l3 (c .before .before .before .before .before .before .put-key .ensures .1) (omega (arith, c .before .before .before .before .before .before .before .before .before .before .before .before .before .before .before .before .before .before .before .before .before .before .before .before .before .pre)) e3 refl (c .before .before .before .before .before .before .put-key .ensures .0) in
+    let l2 : length p2 ≡ delayAt = joined p1 (allocsOctets (c .before .before .before .before .before .before .before .before .before .before .before .before .before .before .before .before .before .before .before .before .before .before .before .before .before .args .l .allocs)) allocsAt allocsWidth l1 (c .before .before .before .before .before .before .before .before .before .before .before .before .before .before .put-allocs .ensures .1) in
+    let e3 = behind t p2 (octets delayWidth (c .before .before .before .before .before .before .before .before .before .before .before .before .before .before .before .before .before .before .before .before .before .before .before .before .before .args .l .delay)) _ _ _ delayAt delayWidth l2 refl (omega (arith, c .before .before .before .before .before .before .before .before .before .before .before .before .before .before .before .before .before .before .before .before .before .before .before .before .before .pre)) e2 refl (c .before .before .before .before .before .before .before .before .before .before .put32 .ensures) in
+    let p3 : List ℕ = p2 ++ (octets delayWidth (c .before .before .before .before .before .before .before .before .before .before .before .before .before .before .before .before .before .before .before .before .before .before .before .before .before .args .l .delay)) in
+    let l3 : length p3 ≡ keyAt = joined p2 (octets delayWidth (c .before .before .before .before .before .before .before .before .before .before .before .before .before .before .before .before .before .before .before .before .before .before .before .before .before .args .l .delay)) delayAt delayWidth l2 refl in
+    let e4 = behind t p3 (keyOctets (c .before .before .before .before .before .before .before .before .before .before .before .before .before .before .before .before .before .before .before .before .before .before .before .before .before .args .l .key)) _ _ _ keyAt keyWidth l3 (c .before .before .before .before .before .before .put-key .ensures .1) (omega (arith, c .before .before .before .before .before .before .before .before .before .before .before .before .before .before .before .before .before .before .before .before .before .before .before .before .before .pre)) e3 refl (c .before .before .before .before .before .before .put-key .ensures .0) in
     let p4 : List ℕ = p3 ++ (keyOctets (c .before .before .before .before .before .before .before .before .before .before .before .before .before .before .before .before .before .before .before .before .before .before .before .before .before .args .l .key)) in
-    let l4 : length p4 ≡ 56 = joined p3 (keyOctets (c .before .before .before .before .before .before .before .before .before .before .before .before .before .before .before .before .before .before .before .before .before .before .before .before .before .args .l .key)) 39 17 l3 (c .before .before .before .before .before .before .put-key .ensures .1) in
-    let e5 = behind t p4 (queueOctets (c .before .before .before .before .before .before .before .before .before .before .before .before .before .before .before .before .before .before .before .before .before .before .before .before .before .args .l .owed)) _ _ _ 56 17 l4 (c .before .before .put-queue .ensures .1) (omega (arith, c .before .before .before .before .before .before .before .before .before .before .before .before .before .before .before .before .before .before .before .before .before .before .before .before .before .pre)) e4 refl (c .before .before .put-queue .ensures .0) in
+    let l4 : length p4 ≡ queueAt = joined p3 (keyOctets (c .before .before .before .before .before .before .before .before .before .before .before .before .before .before .before .before .before .before .before .before .before .before .before .before .before .args .l .key)) keyAt keyWidth l3 (c .before .before .before .before .before .before .put-key .ensures .1) in
+    let e5 = behind t p4 (queueOctets (c .before .before .before .before .before .before .before .before .before .before .before .before .before .before .before .before .before .before .before .before .before .before .before .before .before .args .l .owed)) _ _ _ queueAt queueWidth l4 (c .before .before .put-queue .ensures .1) (omega (arith, c .before .before .before .before .before .before .before .before .before .before .before .before .before .before .before .before .before .before .before .before .before .before .before .before .before .pre)) e4 refl (c .before .before .put-queue .ensures .0) in
     let p5 : List ℕ = p4 ++ (queueOctets (c .before .before .before .before .before .before .before .before .before .before .before .before .before .before .before .before .before .before .before .before .before .before .before .before .before .args .l .owed)) in
-    let l5 : length p5 ≡ 73 = joined p4 (queueOctets (c .before .before .before .before .before .before .before .before .before .before .before .before .before .before .before .before .before .before .before .before .before .before .before .before .before .args .l .owed)) 56 17 l4 (c .before .before .put-queue .ensures .1) in
+    let l5 : length p5 ≡ linkWidth = joined p4 (queueOctets (c .before .before .before .before .before .before .before .before .before .before .before .before .before .before .before .before .before .before .before .before .before .before .before .before .before .args .l .owed)) queueAt queueWidth l4 (c .before .before .put-queue .ensures .1) in
     (e5, l5)
 
 pub put-link-spec : {M : Type 1} → statement M

@@ -11,14 +11,16 @@ use lib.Seq.{sets}
 use Rattle.layout.specs.Rows.{each}
 use Rattle.layout.specs.Layout.{markOctets}
 use Rattle.layout.proofs.Laws.{each-one, each-two, each-end, each-length, put-of}
+use Rattle.ports.specs.Limits.{slots}
+use Rattle.layout.specs.Offsets.{markWidth}
 use Rattle.layout.proofs.writing.put_marks.Statement.{statement}
 use Rattle.layout.proofs.writing.put_marks.Tie as tie
 
 abbrev Inv-loop : tie.InvT-loop
-Inv-loop out₀ l i₀ out i = (i ≤ 17) × (length l ≡ 17) × (length out ≡ length out₀) × (sets out (i) (each markOctets (drop i l)) ≡ sets out₀ 0 (each markOctets l))
+Inv-loop out₀ l i₀ out i = (i ≤ slots) × (length l ≡ slots) × (length out ≡ length out₀) × (sets out (i) (each markOctets (drop i l)) ≡ sets out₀ 0 (each markOctets l))
 
 abbrev μ-loop : tie.MeasureT-loop
-μ-loop out₀ l i₀ out i = 17 - i
+μ-loop out₀ l i₀ out i = slots - i
 
 loop-holds : tie.Need-loop-holds Inv-loop μ-loop
 loop-holds c = (omega arith, search needs, refl, refl)
@@ -47,8 +49,8 @@ same-length c = c .before .loop .inv .2
 returns : tie.Need-returns Inv-loop μ-loop
 returns c =
     let l = c .before .before .before .args .t1 in (
-      each-end markOctets l (c .before .loop .i) (c .before .loop .i) (c .before .loop .out) (omega arith) ∙ c .before .loop .inv .3 ∙ put-of (each markOctets l) (now (c .before .before .before .args .out)) (omega (arith, c .before .before .before .pre, c .before .loop .inv .1, each-length markOctets 1 (λ a. refl) l)),
-      each-length markOctets 1 (λ a. refl) l ∙ ap (λ (n : ℕ). 1 * n) (c .before .loop .inv .1),
+      each-end markOctets l (c .before .loop .i) (c .before .loop .i) (c .before .loop .out) (omega arith) ∙ c .before .loop .inv .3 ∙ put-of (each markOctets l) (now (c .before .before .before .args .out)) (omega (arith, c .before .before .before .pre, c .before .loop .inv .1, each-length markOctets markWidth (λ a. refl) l)),
+      each-length markOctets markWidth (λ a. refl) l ∙ ap (λ (n : ℕ). markWidth * n) (c .before .loop .inv .1),
     )
 
 pub put-marks-spec : {M : Type 1} → statement M

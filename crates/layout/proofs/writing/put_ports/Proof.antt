@@ -5,13 +5,14 @@ use native.Mathlib.Omega.{arith}
 use denote.Ref.{now}
 use mathlib.Core.List.{List, _++_}
 use Prim.Native.Nat.{ℕ}
-use Rattle.framing.specs.Octets.{octets}
-use Rattle.framing.specs.Writes.{put}
+use Rattle.octets.specs.Octets.{octets}
+use Rattle.xgem.specs.Writes.{put}
 use Rattle.layout.proofs.Laws.{behind, joined, one-octet}
 use lib.ListN.{length}
 use Rattle.layout.specs.Layout.{portOctets, lengthOctets, markOctets}
 use Rattle.layout.specs.Rows.{each}
 use borrow.Author.Needs.{needs}
+use Rattle.layout.specs.Offsets.{lengthsAt, lengthsWidth, waitingAt, waitingWidth, portsWidth}
 use Rattle.layout.proofs.writing.put_ports.Statement.{statement}
 use Rattle.layout.proofs.writing.put_ports.Tie as tie
 
@@ -50,13 +51,13 @@ returns c =
     let t = now (c .before .before .before .before .before .before .before .before .before .before .before .before .before .before .before .before .args .out) in
     let e1 = c .before .before .before .before .before .before .before .before .before .before .put-port-ids .ensures .0 in
     let p1 : List ℕ = each portOctets (c .before .before .before .before .before .before .before .before .before .before .before .before .before .before .before .before .args .p .ids) in
-    let l1 : length p1 ≡ 32 = c .before .before .before .before .before .before .before .before .before .before .put-port-ids .ensures .1 in
-    let e2 = behind t p1 (each lengthOctets (c .before .before .before .before .before .before .before .before .before .before .before .before .before .before .before .before .args .p .lengths)) _ _ _ 32 34 l1 (c .before .before .before .before .before .before .put-lengths .ensures .1) (omega (arith, c .before .before .before .before .before .before .before .before .before .before .before .before .before .before .before .before .pre)) e1 refl (c .before .before .before .before .before .before .put-lengths .ensures .0) in
+    let l1 : length p1 ≡ lengthsAt = c .before .before .before .before .before .before .before .before .before .before .put-port-ids .ensures .1 in
+    let e2 = behind t p1 (each lengthOctets (c .before .before .before .before .before .before .before .before .before .before .before .before .before .before .before .before .args .p .lengths)) _ _ _ lengthsAt lengthsWidth l1 (c .before .before .before .before .before .before .put-lengths .ensures .1) (omega (arith, c .before .before .before .before .before .before .before .before .before .before .before .before .before .before .before .before .pre)) e1 refl (c .before .before .before .before .before .before .put-lengths .ensures .0) in
     let p2 : List ℕ = p1 ++ (each lengthOctets (c .before .before .before .before .before .before .before .before .before .before .before .before .before .before .before .before .args .p .lengths)) in
-    let l2 : length p2 ≡ 66 = joined p1 (each lengthOctets (c .before .before .before .before .before .before .before .before .before .before .before .before .before .before .before .before .args .p .lengths)) 32 34 l1 (c .before .before .before .before .before .before .put-lengths .ensures .1) in
-    let e3 = behind t p2 (each markOctets (c .before .before .before .before .before .before .before .before .before .before .before .before .before .before .before .before .args .p .waiting)) _ _ _ 66 17 l2 (c .before .before .put-marks .ensures .1) (omega (arith, c .before .before .before .before .before .before .before .before .before .before .before .before .before .before .before .before .pre)) e2 refl (c .before .before .put-marks .ensures .0) in
+    let l2 : length p2 ≡ waitingAt = joined p1 (each lengthOctets (c .before .before .before .before .before .before .before .before .before .before .before .before .before .before .before .before .args .p .lengths)) lengthsAt lengthsWidth l1 (c .before .before .before .before .before .before .put-lengths .ensures .1) in
+    let e3 = behind t p2 (each markOctets (c .before .before .before .before .before .before .before .before .before .before .before .before .before .before .before .before .args .p .waiting)) _ _ _ waitingAt waitingWidth l2 (c .before .before .put-marks .ensures .1) (omega (arith, c .before .before .before .before .before .before .before .before .before .before .before .before .before .before .before .before .pre)) e2 refl (c .before .before .put-marks .ensures .0) in
     let p3 : List ℕ = p2 ++ (each markOctets (c .before .before .before .before .before .before .before .before .before .before .before .before .before .before .before .before .args .p .waiting)) in
-    let l3 : length p3 ≡ 83 = joined p2 (each markOctets (c .before .before .before .before .before .before .before .before .before .before .before .before .before .before .before .before .args .p .waiting)) 66 17 l2 (c .before .before .put-marks .ensures .1) in
+    let l3 : length p3 ≡ portsWidth = joined p2 (each markOctets (c .before .before .before .before .before .before .before .before .before .before .before .before .before .before .before .before .args .p .waiting)) waitingAt waitingWidth l2 (c .before .before .put-marks .ensures .1) in
     (e3, l3)
 
 pub put-ports-spec : {M : Type 1} → statement M

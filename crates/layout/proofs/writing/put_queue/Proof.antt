@@ -5,12 +5,13 @@ use native.Mathlib.Omega.{arith}
 use denote.Ref.{now}
 use mathlib.Core.List.{List, _++_}
 use Prim.Native.Nat.{ℕ}
-use Rattle.framing.specs.Octets.{octets}
-use Rattle.framing.specs.Writes.{put}
+use Rattle.octets.specs.Octets.{octets}
+use Rattle.xgem.specs.Writes.{put}
 use Rattle.layout.proofs.Laws.{behind, joined, one-octet}
 use Rattle.layout.specs.Rows.{each}
 use Rattle.layout.specs.Layout.{owedOctets}
 use borrow.Author.Needs.{needs}
+use Rattle.layout.specs.Offsets.{countWidth, answersAt, answersWidth}
 use Rattle.layout.proofs.writing.put_queue.Statement.{statement}
 use Rattle.layout.proofs.writing.put_queue.Tie as tie
 
@@ -39,8 +40,8 @@ returns : tie.Need-returns
 returns c =
     let t = now (c .before .before .before .before .before .before .before .before .before .before .before .args .out) in
     let x = c .before .before .before .before .before .before .before .before .before .before .before .args .q in (
-      behind t (octets 1 (x .count)) (each owedOctets (x .answers)) _ _ _ 1 16 refl (c .before .before .put-answers .ensures .1) (c .before .before .before .before .before .before .before .before .before .before .before .pre) (c .before .before .before .before .before .before .put8 .ensures ∙ ap (λ (l : List ℕ). put t l) (one-octet (x .count))) refl (c .before .before .put-answers .ensures .0),
-      joined (octets 1 (x .count)) (each owedOctets (x .answers)) 1 16 refl (c .before .before .put-answers .ensures .1),
+      behind t (octets countWidth (x .count)) (each owedOctets (x .answers)) _ _ _ answersAt answersWidth refl (c .before .before .put-answers .ensures .1) (c .before .before .before .before .before .before .before .before .before .before .before .pre) (c .before .before .before .before .before .before .put8 .ensures ∙ ap (λ (l : List ℕ). put t l) (one-octet (x .count))) refl (c .before .before .put-answers .ensures .0),
+      joined (octets countWidth (x .count)) (each owedOctets (x .answers)) answersAt answersWidth refl (c .before .before .put-answers .ensures .1),
     )
 
 pub put-queue-spec : {M : Type 1} → statement M

@@ -4,13 +4,14 @@ use mathlib.Core.Path.{_≡_, refl, sym, ap, _∙_}
 use native.Mathlib.Omega.{arith}
 use denote.Ref.{now}
 use mathlib.Core.List.{List, _++_}
-use Prim.Native.Nat.{ℕ}
-use Rattle.framing.specs.Octets.{octets}
-use Rattle.framing.specs.Writes.{put}
+use Prim.Native.Nat.{ℕ, _+_}
+use Rattle.octets.specs.Octets.{octets}
+use Rattle.xgem.specs.Writes.{put}
 use Rattle.layout.proofs.Laws.{behind, joined, one-octet}
 use lib.ListN.{length}
 use Rattle.layout.specs.Layout.{identityOctets, linkOctets, portsOctets, carriedOctets, encoded}
 use borrow.Author.Needs.{needs}
+use Rattle.layout.specs.Offsets.{linkAt, linkWidth, portsAt, portsWidth, carriedAt, wordsWidth, reservedWidth, stateBytes}
 use Rattle.layout.proofs.writing.put_station.Statement.{statement}
 use Rattle.layout.proofs.writing.put_station.Tie as tie
 
@@ -62,16 +63,16 @@ returns c =
     let t = now (c .before .before .before .before .before .before .before .before .before .before .before .before .before .before .before .before .before .before .before .before .before .args .out) in
     let e1 = c .before .before .before .before .before .before .before .before .before .before .before .before .before .before .put-identity .ensures .0 in
     let p1 : List ℕ = identityOctets (c .before .before .before .before .before .before .before .before .before .before .before .before .before .before .before .before .before .before .before .before .before .args .s .activation) (c .before .before .before .before .before .before .before .before .before .before .before .before .before .before .before .before .before .before .before .before .before .args .s .serial) (c .before .before .before .before .before .before .before .before .before .before .before .before .before .before .before .before .before .before .before .before .before .args .s .registration) in
-    let l1 : length p1 ≡ 49 = c .before .before .before .before .before .before .before .before .before .before .before .before .before .before .put-identity .ensures .1 in
-    let e2 = behind t p1 (linkOctets (c .before .before .before .before .before .before .before .before .before .before .before .before .before .before .before .before .before .before .before .before .before .args .s .link)) _ _ _ 49 73 l1 (c .before .before .before .before .before .before .before .before .before .before .put-link .ensures .1) (omega (arith, c .before .before .before .before .before .before .before .before .before .before .before .before .before .before .before .before .before .before .before .before .before .pre)) e1 refl (c .before .before .before .before .before .before .before .before .before .before .put-link .ensures .0) in
+    let l1 : length p1 ≡ linkAt = c .before .before .before .before .before .before .before .before .before .before .before .before .before .before .put-identity .ensures .1 in
+    let e2 = behind t p1 (linkOctets (c .before .before .before .before .before .before .before .before .before .before .before .before .before .before .before .before .before .before .before .before .before .args .s .link)) _ _ _ linkAt linkWidth l1 (c .before .before .before .before .before .before .before .before .before .before .put-link .ensures .1) (omega (arith, c .before .before .before .before .before .before .before .before .before .before .before .before .before .before .before .before .before .before .before .before .before .pre)) e1 refl (c .before .before .before .before .before .before .before .before .before .before .put-link .ensures .0) in
     let p2 : List ℕ = p1 ++ (linkOctets (c .before .before .before .before .before .before .before .before .before .before .before .before .before .before .before .before .before .before .before .before .before .args .s .link)) in
-    let l2 : length p2 ≡ 122 = joined p1 (linkOctets (c .before .before .before .before .before .before .before .before .before .before .before .before .before .before .before .before .before .before .before .before .before .args .s .link)) 49 73 l1 (c .before .before .before .before .before .before .before .before .before .before .put-link .ensures .1) in
-    let e3 = behind t p2 (portsOctets (c .before .before .before .before .before .before .before .before .before .before .before .before .before .before .before .before .before .before .before .before .before .args .s .ports)) _ _ _ 122 83 l2 (c .before .before .before .before .before .before .put-ports .ensures .1) (omega (arith, c .before .before .before .before .before .before .before .before .before .before .before .before .before .before .before .before .before .before .before .before .before .pre)) e2 refl (c .before .before .before .before .before .before .put-ports .ensures .0) in
+    let l2 : length p2 ≡ portsAt = joined p1 (linkOctets (c .before .before .before .before .before .before .before .before .before .before .before .before .before .before .before .before .before .before .before .before .before .args .s .link)) linkAt linkWidth l1 (c .before .before .before .before .before .before .before .before .before .before .put-link .ensures .1) in
+    let e3 = behind t p2 (portsOctets (c .before .before .before .before .before .before .before .before .before .before .before .before .before .before .before .before .before .before .before .before .before .args .s .ports)) _ _ _ portsAt portsWidth l2 (c .before .before .before .before .before .before .put-ports .ensures .1) (omega (arith, c .before .before .before .before .before .before .before .before .before .before .before .before .before .before .before .before .before .before .before .before .before .pre)) e2 refl (c .before .before .before .before .before .before .put-ports .ensures .0) in
     let p3 : List ℕ = p2 ++ (portsOctets (c .before .before .before .before .before .before .before .before .before .before .before .before .before .before .before .before .before .before .before .before .before .args .s .ports)) in
-    let l3 : length p3 ≡ 205 = joined p2 (portsOctets (c .before .before .before .before .before .before .before .before .before .before .before .before .before .before .before .before .before .before .before .before .before .args .s .ports)) 122 83 l2 (c .before .before .before .before .before .before .put-ports .ensures .1) in
-    let e4 = behind t p3 (carriedOctets (c .before .before .before .before .before .before .before .before .before .before .before .before .before .before .before .before .before .before .before .before .before .args .s .carried)) _ _ _ 205 3 l3 refl (omega (arith, c .before .before .before .before .before .before .before .before .before .before .before .before .before .before .before .before .before .before .before .before .before .pre)) e3 refl (c .before .before .put-carried .ensures) in
+    let l3 : length p3 ≡ carriedAt = joined p2 (portsOctets (c .before .before .before .before .before .before .before .before .before .before .before .before .before .before .before .before .before .before .before .before .before .args .s .ports)) portsAt portsWidth l2 (c .before .before .before .before .before .before .put-ports .ensures .1) in
+    let e4 = behind t p3 (carriedOctets (c .before .before .before .before .before .before .before .before .before .before .before .before .before .before .before .before .before .before .before .before .before .args .s .carried)) _ _ _ carriedAt (wordsWidth + reservedWidth) l3 refl (omega (arith, c .before .before .before .before .before .before .before .before .before .before .before .before .before .before .before .before .before .before .before .before .before .pre)) e3 refl (c .before .before .put-carried .ensures) in
     let p4 : List ℕ = p3 ++ (carriedOctets (c .before .before .before .before .before .before .before .before .before .before .before .before .before .before .before .before .before .before .before .before .before .args .s .carried)) in
-    let l4 : length p4 ≡ 208 = joined p3 (carriedOctets (c .before .before .before .before .before .before .before .before .before .before .before .before .before .before .before .before .before .before .before .before .before .args .s .carried)) 205 3 l3 refl in
+    let l4 : length p4 ≡ stateBytes = joined p3 (carriedOctets (c .before .before .before .before .before .before .before .before .before .before .before .before .before .before .before .before .before .before .before .before .before .args .s .carried)) carriedAt (wordsWidth + reservedWidth) l3 refl in
     (e4, l4)
 
 pub put-station-spec : {M : Type 1} → statement M

@@ -7,9 +7,9 @@ use native.Mathlib.Omega.{arith}
 use lib.ListN.{length}
 use Rattle.hec.specs.declared.Reading64.{Reading64}
 use Rattle.hec.specs.Reads.{found64}
-use Rattle.framing.specs.declared.xgem.XgemHeader.{XgemHeader}
-use Rattle.framing.specs.Layouts.{xgemOf, payloadSize}
-use Rattle.framing.specs.Reads.{Found, fields, unreadable, taken, readXgem}
+use Rattle.xgem.specs.declared.frame.XgemHeader.{XgemHeader}
+use Rattle.xgem.specs.Layouts.{xgemOf, payloadSize}
+use Rattle.xgem.specs.Reads.{Found, fields, unreadable, taken, readXgem}
 use Rattle.payload.proofs.Reading.{found-ahead, pli-lt, done-ahead, lost-ahead, long-ahead, frame-ahead}
 use borrow.Author.Needs.{needs}
 use Rattle.payload.proofs.frames.next_frame.Statement.{statement}

@@ -6,16 +6,17 @@ use native.Mathlib.Numerals.{add-one}
 use native.Mathlib.Omega.{arith}
 use borrow.Author.Needs.{needs}
 use lib.ListN.{length, drop}
+use Rattle.ports.specs.Limits.{slots}
 use Rattle.payload.specs.Walk.{allWithin}
 use Rattle.payload.proofs.Lengths.{within-hit, within-miss, within-end}
 use Rattle.payload.proofs.walk.all_within.Statement.{statement}
 use Rattle.payload.proofs.walk.all_within.Tie as tie
 
 abbrev Inv-loop : tie.InvT-loop
-Inv-loop lengths i₀ i = (i ≤ 17) × (length lengths ≡ 17) × (allWithin (drop i lengths) ≡ allWithin lengths)
+Inv-loop lengths i₀ i = (i ≤ slots) × (length lengths ≡ slots) × (allWithin (drop i lengths) ≡ allWithin lengths)
 
 abbrev μ-loop : tie.MeasureT-loop
-μ-loop lengths i₀ i = 17 - i
+μ-loop lengths i₀ i = slots - i
 
 loop-holds : tie.Need-loop-holds Inv-loop μ-loop
 loop-holds c = (omega arith, search needs, refl)

@@ -2,46 +2,38 @@
 -- Assumes nothing.
 use denote.Ref.{now}
 use mathlib.Core.Path.{_≡_, sym, ap, _∙_}
-use mathlib.Core.Bool.{Bool}
 use mathlib.Core.List.{List}
 use Prim.Native.Nat.{ℕ, _+_, _-_, _^_, _<_}
 use native.Mathlib.Omega.{arith}
 use borrow.Author.Needs.{needs}
 use lib.ListN.{length, take, drop, length-take, length-drop}
-use Rattle.ids.specs.declared.PortId.{PortId}
-use Rattle.ports.specs.declared.Ports.{Ports}
+use Rattle.ports.specs.Ports.{portsOf}
 use Rattle.payload.specs.declared.walk.Received.{Received}
 use Rattle.payload.specs.declared.frames.Next.the-variants.{Frame}
 use Rattle.payload.specs.Frames.{nextOf}
-use Rattle.payload.specs.Memory.{Receiver}
+use Rattle.payload.specs.Memory.{Receiver, receiverOf}
 use Rattle.payload.specs.Walk.{Walked, endedBy}
 use Rattle.payload.proofs.Steps.{ready-less}
 use Rattle.payload.proofs.Walks.{At, Numbers, numbers-of, at-start, at-done, at-lost, at-turn, rest-part}
 use Rattle.payload.proofs.walk.walk_frames.Statement.{statement}
 use Rattle.payload.proofs.walk.walk_frames.Tie as tie
 
-abbrev together : List PortId → List ℕ → List Bool → Ports
-together ids lengths waiting = record { ids = ids; lengths = lengths; waiting = waiting }
-
-abbrev receiver : Ports → ℕ → List ℕ → List ℕ → Receiver
-receiver p bytes memory deliveries = record { ports = p; bytes = bytes; memory = memory; deliveries = deliveries }
-
 abbrev Inv-loop : tie.InvT-loop
 Inv-loop own memory₀ deliveries₀ place payload ids lengths₀ waiting₀ bytes₀ at₀ memory deliveries lengths waiting bytes at =
-    At own place payload (receiver (together ids lengths₀ waiting₀) bytes₀ memory₀ deliveries₀) (receiver (together ids lengths waiting) bytes memory deliveries) at × (length payload < 2 ^ 64)
+    At own place payload (receiverOf (portsOf ids lengths₀ waiting₀) bytes₀ memory₀ deliveries₀) (receiverOf (portsOf ids lengths waiting) bytes memory deliveries) at × (length payload < 2 ^ 64)
 
 abbrev μ-loop : tie.MeasureT-loop
 μ-loop own memory₀ deliveries₀ place payload ids lengths₀ waiting₀ bytes₀ at₀ memory deliveries lengths waiting bytes at = length payload - at
 
 abbrev walked : List ℕ → List ℕ → Received → Walked
-walked memory deliveries r = record { receiver = record { ports = r .ports; bytes = r .bytes; memory = memory; deliveries = deliveries }; delineation = r .delineation }
+walked memory deliveries r = record { receiver = receiverOf (r .ports) (r .bytes) memory deliveries; delineation = r .delineation }
 
 -- what the walk starts from, and what it has made of it
 start : (c : tie.Start Inv-loop μ-loop) → Receiver
-start c = receiver (c .args .ports) 0 (now (c .args .memory)) (now (c .args .deliveries))
+start c = receiverOf (c .args .ports) 0 (now (c .args .memory)) (now (c .args .deliveries))
 
 so-far : (c : tie.At-loop Inv-loop μ-loop) → Receiver
-so-far c = receiver (together (c .before .before .before .before .before .before .before .args .ports .ids) (c .loop .lengths) (c .loop .waiting)) (c .loop .bytes) (c .loop .memory) (c .loop .deliveries)
+so-far c = receiverOf (portsOf (c .before .before .before .before .before .before .before .args .ports .ids) (c .loop .lengths) (c .loop .waiting)) (c .loop .bytes) (c .loop .memory) (c .loop .deliveries)
 
 -- what the code finds next is what the parse finds
 next : (c : tie.After-next-frame Inv-loop μ-loop) → let l = c .before .before in c .next-frame .result ≡ nextOf (drop (l .loop .at) (now (l .before .before .before .before .before .before .before .args .payload)))
@@ -80,8 +72,8 @@ next-frame-requires c κs = search needs
 enum-told : tie.Need-enum-told Inv-loop μ-loop
 enum-told c = search needs
 
-together-requires : tie.Need-together-requires Inv-loop μ-loop
-together-requires c κs = search needs
+of-requires : tie.Need-of-requires Inv-loop μ-loop
+of-requires c κs = search needs
 
 kept-requires : tie.Need-kept-requires Inv-loop μ-loop
 kept-requires c κs = search needs
@@ -97,14 +89,14 @@ unfolding start so-far
 returns c =
     let l = c .before .before .before .before .before .before in
     let s = l .before .before .before .before .before .before .before in
-    ap (walked (l .loop .memory) (l .loop .deliveries)) (rw (c .before .together .ensures) at (c .kept .ensures))
+    ap (walked (l .loop .memory) (l .loop .deliveries)) (rw (c .before .of .ensures) at (c .kept .ensures))
     ∙ at-done (s .args .own) (s .args .place) (now (s .args .payload)) (start s) (so-far l) (l .loop .at) (l .loop .inv .0) (sym (next (c .before .before .before .before)) ∙ c .before .before .enum-told .given .1)
 
 enum-told-2 : tie.Need-enum-told-2 Inv-loop μ-loop
 enum-told-2 c = search needs
 
-together-requires-2 : tie.Need-together-requires-2 Inv-loop μ-loop
-together-requires-2 c κs = search needs
+of-requires-2 : tie.Need-of-requires-2 Inv-loop μ-loop
+of-requires-2 c κs = search needs
 
 lost-requires : tie.Need-lost-requires Inv-loop μ-loop
 lost-requires c κs = search needs
@@ -120,7 +112,7 @@ unfolding endedBy start so-far
 returns-2 c =
     let l = c .before .before .before .before .before .before in
     let s = l .before .before .before .before .before .before .before in
-    ap (walked (l .loop .memory) (l .loop .deliveries)) (rw (c .before .together2 .ensures) at (c .lost .ensures))
+    ap (walked (l .loop .memory) (l .loop .deliveries)) (rw (c .before .of2 .ensures) at (c .lost .ensures))
     ∙ at-lost (s .args .own) (s .args .place) (now (s .args .payload)) (start s) (so-far l) (l .loop .at) (l .loop .inv .0) (sym (next (c .before .before .before .before)) ∙ c .before .before .enum-told2 .given .1)
 
 enum-known-next : tie.Need-enum-known-next Inv-loop μ-loop
@@ -186,13 +178,13 @@ walk-frames-spec =
     part-next-frame-end
     next-frame-requires
     enum-told
-    together-requires
+    of-requires
     kept-requires
     same-length
     same-length-2
     returns
     enum-told-2
-    together-requires-2
+    of-requires-2
     lost-requires
     same-length-3
     same-length-4

@@ -17,8 +17,8 @@ shared-slice-read-kind c = search needs
 onu-in-requires : tie.Need-onu-in-requires
 onu-in-requires c κs = search needs
 
-serial-number-requires : tie.Need-serial-number-requires
-serial-number-requires c κs = search needs
+serial-at-requires : tie.Need-serial-at-requires
+serial-at-requires c κs = search needs
 
 shared-slice-read-adjustment : tie.Need-shared-slice-read-adjustment
 shared-slice-read-adjustment c = search needs
@@ -35,8 +35,8 @@ shared-slice-read-switch c = search needs
 switch-requires : tie.Need-switch-requires
 switch-requires c κs = search needs
 
-serial-number-requires-2 : tie.Need-serial-number-requires-2
-serial-number-requires-2 c κs = search needs
+serial-at-requires-2 : tie.Need-serial-at-requires-2
+serial-at-requires-2 c κs = search needs
 
 alloc-in-requires : tie.Need-alloc-in-requires
 alloc-in-requires c κs = search needs
@@ -55,7 +55,7 @@ returns-2 : tie.Need-returns-2
 unfolding contentAs
 returns-2 c =
     let at = c .before .before in
-    ap₂ AssignOnuId (c .before .onu-in .ensures) (c .serial-number .ensures)
+    ap₂ AssignOnuId (c .before .onu-in .ensures) (c .serial-at .ensures)
     ∙ sym (ap (λ (k : ℕ). contentAs k (now (at .before .before .before .args .m))) (at .match .keys2))
 
 returns-3 : tie.Need-returns-3
@@ -73,7 +73,7 @@ returns-5 : tie.Need-returns-5
 unfolding contentAs
 returns-5 c =
     let at = c .before .before .before in
-    ap₂ DisableSerialNumber (c .before .switch .ensures) (c .serial-number2 .ensures)
+    ap₂ DisableSerialNumber (c .before .switch .ensures) (c .serial-at2 .ensures)
     ∙ sym (ap (λ (k : ℕ). contentAs k (now (at .before .before .before .args .m))) (at .match .keys5))
 
 returns-6 : tie.Need-returns-6
@@ -108,13 +108,13 @@ content-spec =
     (tie.spec
     shared-slice-read-kind
     onu-in-requires
-    serial-number-requires
+    serial-at-requires
     shared-slice-read-adjustment
     adjustment-requires
     number32-requires
     shared-slice-read-switch
     switch-requires
-    serial-number-requires-2
+    serial-at-requires-2
     alloc-in-requires
     shared-slice-read-change
     change-requires

@@ -1,6 +1,5 @@
 -- `trace::records::print_outcome` meets its contract.
 -- Assumes nothing.
-use borrow.Author.Needs.{needs}
 use mathlib.Core.Path.{ap, _∙_}
 use Prim.Native.Nat.{_+_}
 use lib.ListN.{length}
@@ -47,6 +46,7 @@ returns c =
     line-made
     (a .run .number)
     (a .o)
+    (a .c)
     _
     _
     _

@@ -8,8 +8,8 @@ use borrow.Author.Tests.{le-leb}
 use Rattle.hec.specs.Reads.{reading, found64}
 use Rattle.hec.proofs.Nearest.{is-reading}
 use Rattle.xgtc.specs.Layouts.{allocationOf}
-use Rattle.framing.specs.Octets.{value}
-use Rattle.framing.proofs.Steps.{read-short, read-found}
+use Rattle.octets.specs.Octets.{value}
+use Rattle.xgem.proofs.Steps.{read-short, read-found}
 use borrow.Author.Needs.{needs}
 use Rattle.xgtc.proofs.allocation.read_allocation.Statement.{statement}
 use Rattle.xgtc.proofs.allocation.read_allocation.Tie as tie

@@ -5,11 +5,11 @@ use mathlib.Core.Path.{ap₂, _∙_}
 use mathlib.Core.Bool.{Bool}
 use Prim.Native.Nat.{ℕ, _%_, _^_}
 use Rattle.hec.specs.Writes.{protected}
-use Rattle.framing.specs.Octets.{octets}
-use Rattle.framing.specs.Writes.{wrote}
+use Rattle.octets.specs.Octets.{octets}
+use Rattle.xgem.specs.Writes.{wrote}
 use Rattle.xgtc.specs.Layouts.{allocationFits, allocationBits}
 use Rattle.xgtc.proofs.Layouts.{allocation-lt}
-use Rattle.framing.proofs.Steps.{fitted}
+use Rattle.xgem.proofs.Steps.{fitted}
 use borrow.Author.Needs.{needs}
 use Rattle.xgtc.proofs.allocation.write_allocation.Statement.{statement}
 use Rattle.xgtc.proofs.allocation.write_allocation.Tie as tie

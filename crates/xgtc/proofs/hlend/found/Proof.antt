@@ -4,7 +4,7 @@ use mathlib.Core.Path.{sym, ap, _∙_}
 use Rattle.hec.specs.declared.Reading32.{Reading32}
 use Rattle.hec.specs.Reads.{found32}
 use Rattle.xgtc.specs.Layouts.{hlendOf}
-use Rattle.framing.specs.Reads.{taken, fields}
+use Rattle.xgem.specs.Reads.{taken, fields}
 use borrow.Author.Needs.{needs}
 use Rattle.xgtc.proofs.hlend.found.Statement.{statement}
 use Rattle.xgtc.proofs.hlend.found.Tie as tie

@@ -5,7 +5,7 @@ use native.Mathlib.Omega.{arith}
 use Rattle.hec.specs.Reads.{reading, found32}
 use Rattle.hec.proofs.Nearest.{is-reading}
 use Rattle.xgtc.specs.Layouts.{hlendOf}
-use Rattle.framing.proofs.Steps.{read-short, read-found}
+use Rattle.xgem.proofs.Steps.{read-short, read-found}
 use borrow.Author.Needs.{needs}
 use Rattle.xgtc.proofs.hlend.read_hlend.Statement.{statement}
 use Rattle.xgtc.proofs.hlend.read_hlend.Tie as tie

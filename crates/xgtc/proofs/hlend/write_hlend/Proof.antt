@@ -5,12 +5,12 @@ use mathlib.Core.Path.{ap, sym, _∙_}
 use mathlib.Core.Bool.{Bool}
 use Prim.Native.Nat.{ℕ, _+_, _*_, _%_, _^_}
 use Rattle.hec.specs.Writes.{protected}
-use Rattle.framing.specs.Octets.{octets}
-use Rattle.framing.specs.Writes.{wrote}
-use Rattle.framing.specs.Layouts.{behind}
+use Rattle.octets.specs.Octets.{octets}
+use Rattle.xgem.specs.Writes.{wrote}
+use Rattle.xgem.specs.Layouts.{behind}
 use Rattle.xgtc.specs.Layouts.{hlendFits}
 use Rattle.xgtc.proofs.Layouts.{hlend-lt, hlend-typed}
-use Rattle.framing.proofs.Steps.{fitted}
+use Rattle.xgem.proofs.Steps.{fitted}
 use borrow.Author.Needs.{needs}
 use Rattle.xgtc.proofs.hlend.write_hlend.Statement.{statement}
 use Rattle.xgtc.proofs.hlend.write_hlend.Tie as tie

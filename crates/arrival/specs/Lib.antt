@@ -1,4 +1,0 @@
-pub mod Limits
-pub mod Lengths
-pub mod Partitions
-pub mod Frame

@@ -1,0 +1,4 @@
+pub mod Limits
+pub mod Lengths
+pub mod Partitions
+pub mod Opening

@@ -1,4 +1,0 @@
-pub mod Octets
-pub mod Layouts
-pub mod Reads
-pub mod Writes

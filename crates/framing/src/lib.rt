@@ -1,7 +1,0 @@
-// Protected words as octets, and the XGEM frame of G.987.3 (clause 9.1). Fields are read from a true word alone, and every
-// structure can be written.
-pub mod octets;
-pub mod xgem;
-
-pub use octets::Written;
-pub use octets::word_ahead;

@@ -1,0 +1,4 @@
+pub mod Receiving
+pub mod Asking
+pub mod Inert
+pub mod Checking
