@@ -276,7 +276,7 @@ pub struct Port {
 /// ```
 /// use lingbarrow::Station;
 ///
-/// let station = Station::power_on([1; 8], [0xa5; 36]);
+/// let station = Station::power_on([1; 8], [165; 36]);
 /// let again = Station::restore(&station.save())?;
 /// assert!(again == station);
 /// assert!(!format!("{station:?}").contains("165"));
