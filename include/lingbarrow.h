@@ -1,7 +1,7 @@
 /* Lingbarrow: the receive engine of an XG-PON terminal (ITU-T G.987.3).
  *
- * A station's run: lingbarrow_power_on once; then for each frame time of 125 us lingbarrow_frame, or lingbarrow_lost. Between them
- * the state and the port memory stay as they are: they are the station's own, and another station has its own.
+ * A station's run: lingbarrow_power_on once; then for each frame time of 125 us lingbarrow_frame, or lingbarrow_lost; ports and the key
+ * at any time between. Each call gets the state and the port memory as the last one left them: they are the station's own.
  * A stretch of a frame is asked for BEFORE that frame's lingbarrow_frame: see lingbarrow_stretch.
  *
  * Every call answers for every content of every buffer: nothing that the bytes or the lengths say is undefined behaviour. What
@@ -50,24 +50,24 @@ extern "C" {
 #define LINGBARROW_FRAME_MOST 135432  /* a frame has 4 bytes to so many, a multiple of 4 */
 #define LINGBARROW_DELAY_MOST 119439  /* bit times, 48 us: a longer random delay counts as this */
 
-/* A record of the plan is four numbers; its flags; which of its four is what. */
+/* A record of the plan is four numbers: which is what, and the flags. */
 #define LINGBARROW_RECORD_NUMBERS 4
 #define LINGBARROW_RECORD_ALLOC 0 /* Alloc-ID */
 #define LINGBARROW_RECORD_FLAGS 1
 #define LINGBARROW_RECORD_START 2 /* burst start */
 #define LINGBARROW_RECORD_GRANT 3 /* GrantSize in words of 4 bytes */
-#define LINGBARROW_FLAG_HEAD 1    /* the first record of a burst */
-#define LINGBARROW_FLAG_PLOAMU 2  /* on a head: the burst sends the next reply */
+#define LINGBARROW_FLAG_HEAD 1          /* the first record of a burst */
+#define LINGBARROW_FLAG_PLOAMU 2        /* on a head: the burst sends the next reply */
 #define LINGBARROW_FLAG_DBRU 4
-#define LINGBARROW_FLAG_FWI 8            /* the head's, on each record of the burst */
-#define LINGBARROW_FLAG_PROFILE_SHIFT 4  /* burst profile, 0 to 3: flags >> 4; the head's too */
+#define LINGBARROW_FLAG_FWI 8           /* the head's, on each record of the burst */
+#define LINGBARROW_FLAG_PROFILE_SHIFT 4 /* burst profile, 0 to 3: flags >> 4; the head's too */
 
 /* A PLOAM message has 48 bytes; where each of its fields stands. */
 #define LINGBARROW_MESSAGE_BYTES 48
-#define LINGBARROW_MESSAGE_ADDRESS 0   /* 2: ONU-ID */
-#define LINGBARROW_MESSAGE_TYPE 2      /* 1 */
-#define LINGBARROW_MESSAGE_SEQNO 3     /* 1 */
-#define LINGBARROW_MESSAGE_CONTENT 4   /* 36 */
+#define LINGBARROW_MESSAGE_ADDRESS 0    /* 2: ONU-ID */
+#define LINGBARROW_MESSAGE_TYPE 2       /* 1 */
+#define LINGBARROW_MESSAGE_SEQNO 3      /* 1 */
+#define LINGBARROW_MESSAGE_CONTENT 4    /* 36 */
 #define LINGBARROW_MESSAGE_INTEGRITY 40 /* 8 */
 
 /* A delivery: its head, then so many bytes as its length says. */
@@ -114,12 +114,12 @@ extern "C" {
 #define LINGBARROW_AT_REGISTRATION (LINGBARROW_AT_SERIAL + LINGBARROW_SERIAL_BYTES)         /* 36: secret */
 #define LINGBARROW_AT_ONU_ID (LINGBARROW_AT_REGISTRATION + LINGBARROW_REGISTRATION_BYTES)   /* 2: 1023 while none is held */
 #define LINGBARROW_AT_ALLOC_COUNT (LINGBARROW_AT_ONU_ID + 2)                                /* 1: how many are held */
-#define LINGBARROW_AT_ALLOC_IDS (LINGBARROW_AT_ALLOC_COUNT + 1)                             /* 2 each, 0 past the count */
+#define LINGBARROW_AT_ALLOC_IDS (LINGBARROW_AT_ALLOC_COUNT + 1)                             /* 2 each; past the count they mean nothing */
 #define LINGBARROW_AT_DELAY (LINGBARROW_AT_ALLOC_IDS + 2 * LINGBARROW_ADDED_ALLOCS)         /* 4: equalization delay in bit times, see the frame call */
 #define LINGBARROW_AT_KEY_HELD (LINGBARROW_AT_DELAY + 4)                                    /* 1: 1 while a key is held, else 0 */
 #define LINGBARROW_AT_KEY (LINGBARROW_AT_KEY_HELD + 1)                                      /* 16: secret */
 #define LINGBARROW_AT_OWED_COUNT (LINGBARROW_AT_KEY + LINGBARROW_KEY_BYTES)                 /* 1: how many are owed */
-#define LINGBARROW_AT_OWED (LINGBARROW_AT_OWED_COUNT + 1)                                   /* 2 each: 0 for a Registration, else completion code + 1; SeqNo */
+#define LINGBARROW_AT_OWED (LINGBARROW_AT_OWED_COUNT + 1)                                   /* 2 each, the oldest first: 0 for a Registration, else completion code + 1; SeqNo */
 #define LINGBARROW_AT_PORT_IDS (LINGBARROW_AT_OWED + 2 * LINGBARROW_MOST_OWED)              /* 2 each, 0 where the slot is empty */
 #define LINGBARROW_AT_PARTIALS (LINGBARROW_AT_PORT_IDS + 2 * LINGBARROW_ADDED_PORTS)        /* 2 each: bytes of the slot's unfinished SDU */
 #define LINGBARROW_AT_WAITING (LINGBARROW_AT_PARTIALS + 2 * LINGBARROW_SLOTS)               /* 1 each: 1 while the slot's port waits, else 0 */
@@ -156,7 +156,7 @@ uint8_t lingbarrow_stretch(const uint8_t *state, size_t state_length, const uint
  *
  * The plan gets records of four numbers: Alloc-ID; flags; burst start; GrantSize. Burst start is the head's StartTime, on each
  * record of the burst: the word of 4 bytes in the upstream frame, 0 to 9719, where the burst's first byte stands (PSBu goes in front
- * of it). It is counted before any delay; the sender adds the equalization delay, and in O2-3 the random delay:
+ * of it). It is counted before any delay: the sender adds its response time and the equalization delay, and in O2-3 the random delay.
  *   - equalization delay, at LINGBARROW_AT_DELAY: what the head end gave by Ranging_Time, so that bursts of all terminals arrive in
  *     step. Bit times of 2.48832 Gbit/s.
  *   - `random_delay`: what the caller drew for a burst in O2-3, so that terminals not yet known do not collide. The same bit times. The

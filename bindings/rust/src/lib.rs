@@ -576,7 +576,8 @@ pub struct Record {
     /// As the laser reads them; the methods have each by its name.
     pub flags: u16,
     /// The burst's start, on each of its records: the word of 4 bytes in the upstream frame, 0 to 9,719, where its first byte stands (PSBu
-    /// goes in front of it). Counted before any delay: the sender adds the equalization delay, and in O2-3 the random delay.
+    /// goes in front of it). Counted before any delay: the sender adds its response time and the equalization delay, and in O2-3 the
+    /// random delay.
     pub start: u16,
     /// GrantSize in words of 4 bytes.
     pub grant: u16,
