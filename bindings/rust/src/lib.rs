@@ -2,7 +2,7 @@
 //! lengths of arrays are types, so that what the C boundary must be granted is granted here.
 //!
 //! A [`Station`] is its state and its port memory, which nobody else can lend. For each frame time it is told that a frame is
-//! [arriving](Station::arriving) or that none [was had](Station::lost); what a frame brings is read from [`Received`].
+//! [arriving](Station::arriving) or that it was [lost](Station::lost); what a frame brings is read from [`Received`].
 //!
 //! ```
 //! use lingbarrow::{write_hlend, Activation, Buffers, Station};
@@ -21,20 +21,40 @@
 //! A stretch of a frame is had only before the frame is received: [`Arriving::receive`] takes the [`Arriving`] away, and a station has
 //! no stretches of its own.
 //!
+//! ```
+//! # let mut station = lingbarrow::Station::power_on([0; 8], [0; 36]);
+//! # let mut buffers = lingbarrow::Buffers::new(1024);
+//! # let frame = [0; 4];
+//! let arriving = station.arriving(&frame);
+//! assert_eq!(arriving.stretch(0)?, None);
+//! arriving.receive(0, &mut buffers)?;
+//! # Ok::<(), lingbarrow::Error>(())
+//! ```
+//!
+//! The other order does not compile:
+//!
 //! ```compile_fail,E0382
 //! # let mut station = lingbarrow::Station::power_on([0; 8], [0; 36]);
 //! # let mut buffers = lingbarrow::Buffers::new(1024);
 //! # let frame = [0; 4];
 //! let arriving = station.arriving(&frame);
-//! arriving.receive(0, &mut buffers);
-//! arriving.stretch(0); // too late: the state has moved on
+//! arriving.receive(0, &mut buffers)?;
+//! assert_eq!(arriving.stretch(0)?, None);
+//! # Ok::<(), lingbarrow::Error>(())
 //! ```
 //!
-//! A wrong kind of identifier is no call:
+//! Nor does a wrong kind of identifier, where the right one does:
+//!
+//! ```
+//! # let mut station = lingbarrow::Station::power_on([0; 8], [0; 36]);
+//! station.add_port(lingbarrow::PortId(2000))?;
+//! # Ok::<(), lingbarrow::Error>(())
+//! ```
 //!
 //! ```compile_fail,E0308
 //! # let mut station = lingbarrow::Station::power_on([0; 8], [0; 36]);
-//! station.add_port(lingbarrow::AllocId(2000));
+//! station.add_port(lingbarrow::AllocId(2000))?;
+//! # Ok::<(), lingbarrow::Error>(())
 //! ```
 
 mod raw;
@@ -270,7 +290,7 @@ pub struct Port {
 
 /// A station: its state, always in range, and its port memory.
 ///
-/// The memory is the station's own. Two stations share [`Buffers`], and nothing of one is delivered by the other. Cloning and saving
+/// The memory is the station's own: two stations may share [`Buffers`], and nothing of one is delivered by the other. Cloning and saving
 /// take both together. The Registration ID and the key are in a saved station, and are not printed by `{:?}`.
 ///
 /// ```
