@@ -198,7 +198,8 @@ pub fn frame(
         replies.len(),
         deliveries.len(),
     );
-    match downstream::open(s, frame, room) {
+    let valid = validity::in_range(s);
+    match downstream::open(valid, frame, room) {
         Opening::Refused(answer) => without(answer, s),
         Opening::Unread(answer) => without(answer, timing::unread_time(s)),
         Opening::Opened(h) => handle(s, h, memory, frame, random_delay, plan, replies, deliveries),
