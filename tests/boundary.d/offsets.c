@@ -30,7 +30,7 @@ int main(void)
 {
     uint8_t serial[LINGBARROW_SERIAL_BYTES], registration[LINGBARROW_REGISTRATION_BYTES];
 
-    if (example() || lingbarrow_add_port(state, sizeof state, 2000) || lingbarrow_give_key(state, sizeof state, key, sizeof key))
+    if (example() || lingbarrow_add_port(state, sizeof state, lingbarrow_port_id_of(2000)) || lingbarrow_give_key(state, sizeof state, key, sizeof key))
         return 1;
     number("the state", LINGBARROW_AT_STATE, 1, 5);
     number("the time left", LINGBARROW_AT_TIME, 4, 0);

@@ -31,7 +31,8 @@ bool each;
 static struct lent before, first;
 static uint8_t answer;
 
-/* None of these has anything on the stack between its frame address and the call's arguments. */
+/* The exported calls themselves: those with an identifier by number, the name in parentheses.
+ * None of these has anything on the stack between its frame address and the call's arguments. */
 static void power_on(void)
 {
     called_from = __builtin_frame_address(0);
@@ -55,13 +56,13 @@ static void lose(void)
 static void add_port(void)
 {
     called_from = __builtin_frame_address(0);
-    answer = lingbarrow_add_port(lent.state, lengths.state, given.port);
+    answer = (lingbarrow_add_port)(lent.state, lengths.state, given.port);
 }
 
 static void remove_port(void)
 {
     called_from = __builtin_frame_address(0);
-    answer = lingbarrow_remove_port(lent.state, lengths.state, given.port);
+    answer = (lingbarrow_remove_port)(lent.state, lengths.state, given.port);
 }
 
 static void give_key(void)
@@ -85,15 +86,15 @@ static void write_hlend(void)
 static void write_allocation(void)
 {
     called_from = __builtin_frame_address(0);
-    answer = lingbarrow_write_allocation(given.alloc, given.dbru, given.ploamu, given.start, given.grant, given.fwi, given.profile,
-                                         lent.target, lengths.target);
+    answer = (lingbarrow_write_allocation)(given.alloc, given.dbru, given.ploamu, given.start, given.grant, given.fwi, given.profile,
+                                           lent.target, lengths.target);
 }
 
 static void write_xgem_frame(void)
 {
     called_from = __builtin_frame_address(0);
-    answer = lingbarrow_write_xgem_frame(given.key_index, given.xgem_port, given.options, given.last, frame, lengths.sdu, lent.target,
-                                         lengths.target);
+    answer = (lingbarrow_write_xgem_frame)(given.key_index, given.xgem_port, given.options, given.last, frame, lengths.sdu, lent.target,
+                                           lengths.target);
 }
 
 #define CALL(made, call, figure) {.run = made, .name = #call, .constant = #figure, .header = figure}

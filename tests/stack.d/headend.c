@@ -128,8 +128,8 @@ static void expect_reply(void)
 
 void put_entry(unsigned alloc, unsigned dbru, unsigned ploamu, unsigned start, unsigned grant, bool planned)
 {
-    must(lingbarrow_write_allocation((uint16_t)alloc, (uint8_t)dbru, (uint8_t)ploamu, (uint16_t)start, (uint16_t)grant, 0, 2,
-                                     frame + frame_length, 8));
+    must(lingbarrow_write_allocation(lingbarrow_alloc_id_of((uint16_t)alloc), (uint8_t)dbru, (uint8_t)ploamu, (uint16_t)start,
+                                     (uint16_t)grant, 0, 2, frame + frame_length, 8));
     header[headers++] = frame_length;
     frame_length += 8;
     entries++;
@@ -205,7 +205,7 @@ void put_xgem(unsigned port, unsigned last, size_t size)
 {
     static const uint8_t sdu[16383] = {'S', 'D', 'U'};
 
-    must(lingbarrow_write_xgem_frame(0, (uint16_t)port, 0, (uint8_t)last, sdu, size, frame + frame_length,
+    must(lingbarrow_write_xgem_frame(0, lingbarrow_port_id_of((uint16_t)port), 0, (uint8_t)last, sdu, size, frame + frame_length,
                                      LINGBARROW_FRAME_MOST - frame_length));
     header[headers++] = frame_length;
     if (station.state == O5 && size && (port == OWN || (PORT <= port && port < PORT + PORTS)))

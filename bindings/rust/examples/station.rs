@@ -1,45 +1,53 @@
-//! A station is brought to O5, is granted a burst, and its plan is printed: `5 3 100 10`.
-use lingbarrow::{records, write_allocation, write_hlend, AllocId, Allocation, Buffers, Counts, Error, Station};
+//! A station is brought to O5, is granted a burst and sent an SDU; its plan is printed last: `5 3 100 10`.
+use lingbarrow::{message, write_allocation, write_hlend, write_xgem_frame, Allocation, Buffers, Error, Station};
 
 const SERIAL: [u8; 8] = *b"LBRW\x00\x00\x00\x01";
 
-// A message of 48 octets: the front, zeros, and the integrity field under the default key.
-fn message(front: &[u8], mic: [u8; 8]) -> [u8; 48] {
-    let mut m = [0; 48];
+// The front, zeros, and the integrity field under the default key.
+fn ploam(front: &[u8], integrity: [u8; 8]) -> [u8; message::BYTES] {
+    let mut m = [0; message::BYTES];
     m[..front.len()].copy_from_slice(front);
-    m[40..].copy_from_slice(&mic);
+    m[message::INTEGRITY..].copy_from_slice(&integrity);
     m
-}
-
-fn arrive(station: &mut Station, frame: &[u8], lent: &mut Buffers) -> Result<Counts, Error> {
-    let counts = station.frame(frame, 0, lent)?;
-    println!("answer {}, {:?}", if counts.lost { 6 } else { 0 }, station.activation());
-    Ok(counts)
 }
 
 fn main() -> Result<(), Error> {
     let mut station = Station::power_on(SERIAL, [0; 36]);
-    let mut lent = Buffers::new(1024);
-    let mut frame = [0u8; 100];
+    let mut buffers = Buffers::new(1024);
+    let mut frame = [0; 100];
 
     // An empty frame: O1 to O2-3.
     write_hlend(0, 0, &mut frame)?;
-    arrive(&mut station, &frame[..4], &mut lent)?;
+    station.arriving(&frame[..4]).receive(0, &mut buffers)?;
+    println!("{:?}", station.activation());
 
     // Assign_ONU-ID 5, then Ranging_Time of 1,000 bit times: both act in one frame, O2-3 to O4 to O5.
-    let assign = message(b"\x03\xff\x03\x01\x00\x05LBRW\x00\x00\x00\x01", [0xf0, 0x66, 0x17, 0x51, 0x26, 0xb0, 0x04, 0xa1]);
-    let ranging = message(&[0, 5, 4, 2, 1, 0, 0, 3, 0xe8], [0xd2, 0xc5, 0xec, 0x7e, 0x42, 0x93, 0x6a, 0xc3]);
+    let assign = ploam(b"\x03\xff\x03\x01\x00\x05LBRW\x00\x00\x00\x01", [0xf0, 0x66, 0x17, 0x51, 0x26, 0xb0, 0x04, 0xa1]);
+    let ranging = ploam(&[0, 5, 4, 2, 1, 0, 0, 3, 0xe8], [0xd2, 0xc5, 0xec, 0x7e, 0x42, 0x93, 0x6a, 0xc3]);
     write_hlend(0, 2, &mut frame)?;
     frame[4..52].copy_from_slice(&assign);
     frame[52..].copy_from_slice(&ranging);
-    arrive(&mut station, &frame, &mut lent)?;
+    station.arriving(&frame).receive(0, &mut buffers)?;
+    println!("{station:?}");
+    let onu = station.onu_id().expect("held in O5");
 
-    // Ten words from word 100 on, with PLOAMu.
+    // HLend; ten words from word 100 on, with PLOAMu; and an SDU of five bytes to the management port, in 8 bytes and 8.
     write_hlend(1, 0, &mut frame)?;
-    let grant = Allocation { alloc: AllocId(5), dbru: false, ploamu: true, start: 100, grant: 10, fwi: false, profile: 0 };
+    let grant = Allocation { alloc: onu.default_alloc(), dbru: false, ploamu: true, start: 100, grant: 10, fwi: false, profile: 0 };
     write_allocation(grant, &mut frame[4..])?;
-    let counts = arrive(&mut station, &frame[..12], &mut lent)?;
-    for r in records(&lent.plan, counts.records) {
+    write_xgem_frame(0, onu.management_port(), 0, true, b"hello", &mut frame[12..])?;
+
+    // Stretches are had while the frame is arriving; to receive it is the end of that.
+    let arriving = station.arriving(&frame[..28]);
+    println!("delivery 0 in the frame: {:?}", arriving.stretch(0)?);
+    let received = arriving.receive(0, &mut buffers)?;
+    for d in received.deliveries() {
+        println!("port {}: {:?}", d.port.0, d.bytes);
+    }
+    for m in received.replies() {
+        println!("a reply of type {}", m[message::TYPE]);
+    }
+    for r in received.records() {
         println!("{} {} {} {}", r.alloc.0, r.flags, r.start, r.grant);
     }
     Ok(())

@@ -1,5 +1,61 @@
 //! The Lingbarrow receive engine from Rust, without `unsafe` for its users: references are never null, `&mut` never overlap, and the
 //! lengths of arrays are types, so that what the C boundary must be granted is granted here.
+//!
+//! A [`Station`] is its state and its port memory, which nobody else can lend. For each frame time it is told that a frame is
+//! [arriving](Station::arriving) or that it was [lost](Station::lost); what a frame brings is read from [`Received`].
+//!
+//! ```
+//! use lingbarrow::{write_hlend, Activation, Buffers, Station};
+//!
+//! let mut station = Station::power_on(*b"LBRW\x00\x00\x00\x01", [0; 36]);
+//! let mut buffers = Buffers::new(1024);
+//! let mut frame = [0; 4];
+//! write_hlend(0, 0, &mut frame)?;
+//!
+//! let received = station.arriving(&frame).receive(0, &mut buffers)?;
+//! assert_eq!(received.records().count(), 0);
+//! assert_eq!(station.activation(), Activation::SerialNumber);
+//! # Ok::<(), lingbarrow::Error>(())
+//! ```
+//!
+//! A stretch of a frame is had only before the frame is received: [`Arriving::receive`] takes the [`Arriving`] away, and a station has
+//! no stretches of its own.
+//!
+//! ```
+//! # let mut station = lingbarrow::Station::power_on([0; 8], [0; 36]);
+//! # let mut buffers = lingbarrow::Buffers::new(1024);
+//! # let frame = [0; 4];
+//! let arriving = station.arriving(&frame);
+//! assert_eq!(arriving.stretch(0)?, None);
+//! arriving.receive(0, &mut buffers)?;
+//! # Ok::<(), lingbarrow::Error>(())
+//! ```
+//!
+//! The other order does not compile:
+//!
+//! ```compile_fail,E0382
+//! # let mut station = lingbarrow::Station::power_on([0; 8], [0; 36]);
+//! # let mut buffers = lingbarrow::Buffers::new(1024);
+//! # let frame = [0; 4];
+//! let arriving = station.arriving(&frame);
+//! arriving.receive(0, &mut buffers)?;
+//! assert_eq!(arriving.stretch(0)?, None);
+//! # Ok::<(), lingbarrow::Error>(())
+//! ```
+//!
+//! Nor does a wrong kind of identifier, where the right one does:
+//!
+//! ```
+//! # let mut station = lingbarrow::Station::power_on([0; 8], [0; 36]);
+//! station.add_port(lingbarrow::PortId(2000))?;
+//! # Ok::<(), lingbarrow::Error>(())
+//! ```
+//!
+//! ```compile_fail,E0308
+//! # let mut station = lingbarrow::Station::power_on([0; 8], [0; 36]);
+//! station.add_port(lingbarrow::AllocId(2000))?;
+//! # Ok::<(), lingbarrow::Error>(())
+//! ```
 
 mod raw;
 
@@ -7,16 +63,30 @@ mod raw;
 pub const STATE_BYTES: usize = at::RESERVED + 1;
 /// Bytes of port memory: 17 slots of 2,048.
 pub const MEMORY_BYTES: usize = 34_816;
+/// Bytes of a saved station: its state, then its port memory.
+pub const SAVED_BYTES: usize = STATE_BYTES + MEMORY_BYTES;
 /// Numbers of a plan: 64 records of four.
 pub const PLAN_NUMBERS: usize = 256;
 /// Bytes of replies: four messages of 48.
 pub const REPLY_BYTES: usize = 192;
 /// A frame has 4 bytes to so many, a multiple of 4.
 pub const FRAME_MOST: usize = 135_432;
+/// Bit times, 48 microseconds: a longer random delay counts as this.
+pub const DELAY_MOST: u32 = 119_439;
+/// At most so many added Alloc-IDs are held.
+pub const ADDED_ALLOCS: usize = 16;
+/// At most so many answers are owed.
+pub const MOST_OWED: usize = 8;
+/// At most so many added ports are held.
+pub const ADDED_PORTS: usize = 16;
+/// Slots of port memory: of the management port, and of each added port.
+pub const SLOTS: usize = 17;
 
 /// Where each field of a state stands: where the one before it does, plus that one's bytes. The C header says what each holds; the
 /// Registration ID and the key are secret.
 pub mod at {
+    use super::{ADDED_ALLOCS, ADDED_PORTS, MOST_OWED, SLOTS};
+
     pub const STATE: usize = 0;
     pub const TIME: usize = STATE + 1;
     pub const SERIAL: usize = TIME + 4;
@@ -24,28 +94,41 @@ pub mod at {
     pub const ONU_ID: usize = REGISTRATION + 36;
     pub const ALLOC_COUNT: usize = ONU_ID + 2;
     pub const ALLOC_IDS: usize = ALLOC_COUNT + 1;
-    pub const DELAY: usize = ALLOC_IDS + 2 * 16;
+    pub const DELAY: usize = ALLOC_IDS + 2 * ADDED_ALLOCS;
     pub const KEY_HELD: usize = DELAY + 4;
     pub const KEY: usize = KEY_HELD + 1;
     pub const OWED_COUNT: usize = KEY + 16;
     pub const OWED: usize = OWED_COUNT + 1;
-    pub const PORT_IDS: usize = OWED + 2 * 8;
-    pub const PARTIALS: usize = PORT_IDS + 2 * 16;
-    pub const WAITING: usize = PARTIALS + 2 * 17;
-    pub const CARRIED: usize = WAITING + 17;
+    pub const PORT_IDS: usize = OWED + 2 * MOST_OWED;
+    pub const PARTIALS: usize = PORT_IDS + 2 * ADDED_PORTS;
+    pub const WAITING: usize = PARTIALS + 2 * SLOTS;
+    pub const CARRIED: usize = WAITING + SLOTS;
     pub const RESERVED: usize = CARRIED + 2;
+}
+
+/// A PLOAM message has 48 bytes; where each of its fields stands.
+pub mod message {
+    pub const BYTES: usize = 48;
+    /// Two bytes, the ONU-ID.
+    pub const ADDRESS: usize = 0;
+    pub const TYPE: usize = 2;
+    pub const SEQ_NO: usize = 3;
+    /// 36 bytes.
+    pub const CONTENT: usize = 4;
+    /// Eight bytes, the message integrity check.
+    pub const INTEGRITY: usize = 40;
 }
 
 /// Bytes of stack that each call of the library takes at most, as the C header has them. What a wrapper takes for itself and what the
 /// caller's own frames need comes on top.
 pub mod stack {
     pub const POWER_ON: usize = 624;
-    pub const FRAME: usize = 3_680;
+    pub const FRAME: usize = 3_816;
     pub const LOST: usize = 1_584;
     pub const ADD_PORT: usize = 1_856;
     pub const REMOVE_PORT: usize = 1_856;
     pub const GIVE_KEY: usize = 1_600;
-    pub const STRETCH: usize = 1_328;
+    pub const STRETCH: usize = 1_216;
     pub const WRITE_HLEND: usize = 160;
     pub const WRITE_ALLOCATION: usize = 192;
     pub const WRITE_XGEM_FRAME: usize = 208;
@@ -54,6 +137,18 @@ pub mod stack {
 /// Names a station on the branch.
 #[derive(Clone, Copy, PartialEq, Eq, Debug, Hash)]
 pub struct OnuId(pub u16);
+
+impl OnuId {
+    /// Its default Alloc-ID, which has the same number.
+    pub const fn default_alloc(self) -> AllocId {
+        AllocId(self.0)
+    }
+
+    /// Its management port, which has the same number.
+    pub const fn management_port(self) -> PortId {
+        PortId(self.0)
+    }
+}
 
 /// Names a recipient of upstream grants.
 #[derive(Clone, Copy, PartialEq, Eq, Debug, Hash)]
@@ -107,7 +202,19 @@ impl Error {
 
 impl std::fmt::Display for Error {
     fn fmt(&self, f: &mut std::fmt::Formatter<'_>) -> std::fmt::Result {
-        write!(f, "{:?} ({})", self, self.number())
+        f.write_str(match self {
+            Error::StateOutOfRange => "state out of range",
+            Error::FrameLengthUnfit => "frame length unfit",
+            Error::BufferTooShort => "a buffer too short",
+            Error::HlendUnreadable => "HLend unreadable",
+            Error::HeaderTooLong => "header longer than frame",
+            Error::DelineationLost => "delineation lost",
+            Error::PortOutOfRange => "port outside 1023 to 65534",
+            Error::PortHeldOrNotHeld => "added port held already, or removed port not held",
+            Error::SlotsTaken => "all 16 slots taken",
+            Error::KeyRefused => "key given in O1, O2-3 or O7",
+            Error::NotWritten => "a value too wide for its field, or a target too short",
+        })
     }
 }
 
@@ -120,140 +227,435 @@ fn done(answer: u8) -> Result<(), Error> {
     }
 }
 
-/// The states of clause 12.
+/// The states of clause 12, each with what belongs to it.
 #[derive(Clone, Copy, PartialEq, Eq, Debug, Hash)]
 pub enum Activation {
+    /// O1
     Initial,
+    /// O2-3
     SerialNumber,
-    Ranging,
+    /// O4, with the frame times left of TO1.
+    Ranging(u32),
+    /// O5
     Operation,
-    Intermittent,
+    /// O6, with the frame times left of TO2.
+    Intermittent(u32),
+    /// O7
     EmergencyStop,
 }
 
-/// A station's state in its one byte form. Saving it is saving the bytes, with the port memory of the same run.
-#[derive(Clone, PartialEq, Eq, Debug)]
-pub struct Station([u8; STATE_BYTES]);
+impl Activation {
+    /// The number after the O; 2 for O2-3.
+    pub const fn number(self) -> u8 {
+        match self {
+            Activation::Initial => 1,
+            Activation::SerialNumber => 2,
+            Activation::Ranging(_) => 4,
+            Activation::Operation => 5,
+            Activation::Intermittent(_) => 6,
+            Activation::EmergencyStop => 7,
+        }
+    }
+}
 
-/// What a frame call writes to. The port memory is handed on from call to call.
+/// The completion codes of an Acknowledgement (clause 11.3.4.4) that this engine sends.
+#[derive(Clone, Copy, PartialEq, Eq, Debug, Hash)]
+#[repr(u8)]
+pub enum Completion {
+    Ok = 0,
+    NoMessage = 1,
+    UnknownMessageType = 3,
+    ParameterError = 4,
+    ProcessingError = 5,
+}
+
+/// An answer that the head end is owed, to be sent in a burst with PLOAMu.
+#[derive(Clone, Copy, PartialEq, Eq, Debug, Hash)]
+pub enum Owed {
+    Registration { seq_no: u8 },
+    Acknowledgement { seq_no: u8, completion: Completion },
+}
+
+/// A port that is the station's.
+#[derive(Clone, Copy, PartialEq, Eq, Debug, Hash)]
+pub struct Port {
+    pub id: PortId,
+    /// 0 for the management port, 1 to 16 for an added one.
+    pub slot: usize,
+    /// Bytes of its unfinished SDU.
+    pub unfinished: usize,
+    /// Whether it discards up to and with the next last fragment.
+    pub waiting: bool,
+}
+
+/// A station: its state, always in range, and its port memory.
+///
+/// The memory is the station's own: two stations may share [`Buffers`], and nothing of one is delivered by the other. Cloning and saving
+/// take both together. The Registration ID and the key are in a saved station, and are not printed by `{:?}`.
+///
+/// ```
+/// use lingbarrow::Station;
+///
+/// let station = Station::power_on([1; 8], [165; 36]);
+/// let again = Station::restore(&station.save())?;
+/// assert!(again == station);
+/// assert!(!format!("{station:?}").contains("165"));
+/// # Ok::<(), lingbarrow::Error>(())
+/// ```
+#[derive(Clone, PartialEq, Eq)]
+pub struct Station {
+    state: [u8; STATE_BYTES],
+    memory: Box<[u8]>,
+}
+
+impl std::fmt::Debug for Station {
+    fn fmt(&self, f: &mut std::fmt::Formatter<'_>) -> std::fmt::Result {
+        f.debug_struct("Station")
+            .field("activation", &self.activation())
+            .field("onu_id", &self.onu_id())
+            .field("added_allocs", &self.alloc_ids().count())
+            .field("owed", &self.owed().count())
+            .field("ports", &self.ports().count())
+            .field("key_held", &self.key_held())
+            .finish_non_exhaustive()
+    }
+}
+
+impl Station {
+    /// In O1, with nothing held.
+    pub fn power_on(serial: [u8; 8], registration: [u8; 36]) -> Station {
+        let mut state = [0; STATE_BYTES];
+        // All three have their lengths: the answer is 0.
+        raw::power_on(&mut state, &serial, &registration);
+        Station { state, memory: vec![0; MEMORY_BYTES].into() }
+    }
+
+    /// State and port memory in one piece of [`SAVED_BYTES`]. It holds secrets, the Registration ID and the key, and subscribers'
+    /// traffic.
+    pub fn save(&self) -> Vec<u8> {
+        [&self.state[..], &self.memory].concat()
+    }
+
+    /// A station that was saved. [`Error::StateOutOfRange`] for bytes that are none: of another length, or no state's in range.
+    pub fn restore(saved: &[u8]) -> Result<Station, Error> {
+        if saved.len() != SAVED_BYTES {
+            return Err(Error::StateOutOfRange);
+        }
+        let (state, memory) = saved.split_at(STATE_BYTES);
+        let mut station = Station { state: [0; STATE_BYTES], memory: memory.into() };
+        station.state.copy_from_slice(state);
+        // Port 0 is never held: all that is asked is whether this is a state, which is tested first.
+        match raw::remove_port(&mut station.state, 0) {
+            1 => Err(Error::StateOutOfRange),
+            _ => Ok(station),
+        }
+    }
+
+    /// The state's bytes as [`at`] has them, to look at. They hold the Registration ID and the key; [`Station::save`] is what to keep.
+    pub fn state_bytes(&self) -> &[u8; STATE_BYTES] {
+        &self.state
+    }
+
+    /// The port memory, to look at: slot after slot, 2,048 bytes each.
+    pub fn memory(&self) -> &[u8] {
+        &self.memory
+    }
+
+    fn octets<const N: usize>(&self, at: usize) -> [u8; N] {
+        let mut octets = [0; N];
+        octets.copy_from_slice(&self.state[at..at + N]);
+        octets
+    }
+
+    fn number(&self, at: usize) -> u16 {
+        u16::from_be_bytes(self.octets(at))
+    }
+
+    /// Where the station stands, and the frame times left to it there.
+    pub fn activation(&self) -> Activation {
+        let left = u32::from_be_bytes(self.octets(at::TIME));
+        match self.state[at::STATE] {
+            1 => Activation::Initial,
+            2 => Activation::SerialNumber,
+            4 => Activation::Ranging(left),
+            5 => Activation::Operation,
+            6 => Activation::Intermittent(left),
+            // A state in range has one of these six.
+            _ => Activation::EmergencyStop,
+        }
+    }
+
+    pub fn serial_number(&self) -> [u8; 8] {
+        self.octets(at::SERIAL)
+    }
+
+    /// Held in O4, O5 and O6.
+    pub fn onu_id(&self) -> Option<OnuId> {
+        Some(self.number(at::ONU_ID)).filter(|n| *n != 1023).map(OnuId)
+    }
+
+    /// The added Alloc-IDs, in the order in which they were given; the default one is not among them.
+    pub fn alloc_ids(&self) -> impl Iterator<Item = AllocId> + '_ {
+        (0..usize::from(self.state[at::ALLOC_COUNT])).map(|i| AllocId(self.number(at::ALLOC_IDS + 2 * i)))
+    }
+
+    /// In bit times of 2.48832 Gbit/s: what the head end gave by Ranging_Time, to be added to each burst's start.
+    pub fn equalization_delay(&self) -> u32 {
+        u32::from_be_bytes(self.octets(at::DELAY))
+    }
+
+    /// Whether a PLOAM integrity key was given and is still held.
+    pub fn key_held(&self) -> bool {
+        self.state[at::KEY_HELD] == 1
+    }
+
+    /// What is owed, the oldest first.
+    pub fn owed(&self) -> impl Iterator<Item = Owed> + '_ {
+        (0..usize::from(self.state[at::OWED_COUNT])).map(|i| {
+            let [what, seq_no] = self.octets(at::OWED + 2 * i);
+            let completion = match what {
+                0 => return Owed::Registration { seq_no },
+                1 => Completion::Ok,
+                2 => Completion::NoMessage,
+                4 => Completion::UnknownMessageType,
+                5 => Completion::ParameterError,
+                // A state in range has one of these six.
+                _ => Completion::ProcessingError,
+            };
+            Owed::Acknowledgement { seq_no, completion }
+        })
+    }
+
+    /// The management port, while an ONU-ID is held, and the added ports, by their slots.
+    pub fn ports(&self) -> impl Iterator<Item = Port> + '_ {
+        (0..SLOTS).filter_map(|slot| {
+            let id = match slot {
+                0 => self.onu_id()?.management_port(),
+                _ => PortId(Some(self.number(at::PORT_IDS + 2 * (slot - 1))).filter(|n| *n != 0)?),
+            };
+            let unfinished = self.number(at::PARTIALS + 2 * slot).into();
+            Some(Port { id, slot, unfinished, waiting: self.state[at::WAITING + slot] == 1 })
+        })
+    }
+
+    /// Words that the last burst takes of the next frame.
+    pub fn carried_words(&self) -> u16 {
+        self.number(at::CARRIED)
+    }
+
+    /// A frame arrives, descrambled, error-corrected and without PSBd: its first byte is HLend's. Nothing happens before it is
+    /// [received](Arriving::receive).
+    pub fn arriving<'s, 'f>(&'s mut self, frame: &'f [u8]) -> Arriving<'s, 'f> {
+        Arriving { station: self, frame }
+    }
+
+    /// A frame time in which the synchroniser reports LODS.
+    pub fn lost(&mut self) {
+        // A state in range, with its length: the answer is 0.
+        raw::lost(&mut self.state);
+    }
+
+    /// An XGEM port of 1,023 to 65,534, into the lowest empty slot. It waits for the next SDU to begin.
+    pub fn add_port(&mut self, port: PortId) -> Result<(), Error> {
+        done(raw::add_port(&mut self.state, port.0))
+    }
+
+    pub fn remove_port(&mut self, port: PortId) -> Result<(), Error> {
+        done(raw::remove_port(&mut self.state, port.0))
+    }
+
+    /// The PLOAM integrity key: taken in O4, O5 and O6.
+    pub fn give_key(&mut self, key: &[u8; 16]) -> Result<(), Error> {
+        done(raw::give_key(&mut self.state, key))
+    }
+}
+
+/// A frame and the station at which it arrives, before anything of it has acted.
+#[must_use = "a frame acts when it is received"]
+pub struct Arriving<'s, 'f> {
+    station: &'s mut Station,
+    frame: &'f [u8],
+}
+
+impl std::fmt::Debug for Arriving<'_, '_> {
+    fn fmt(&self, f: &mut std::fmt::Formatter<'_>) -> std::fmt::Result {
+        f.debug_struct("Arriving").field("station", &self.station).field("frame_bytes", &self.frame.len()).finish()
+    }
+}
+
+impl<'f> Arriving<'_, 'f> {
+    /// The SDU that will be delivery `k` (from 0) as its own stretch of the frame, padding cut off. `None` where it is put together
+    /// from fragments, and where there is no such delivery.
+    pub fn stretch(&self, k: usize) -> Result<Option<&'f [u8]>, Error> {
+        let mut place = [0; 2];
+        match Error::of(raw::stretch(&self.station.state, self.frame, k, &mut place)) {
+            None | Some(Error::DelineationLost) => {}
+            Some(e) => return Err(e),
+        }
+        let [at, bytes] = place;
+        Ok(Some(&self.frame[at..at + bytes]).filter(|s| !s.is_empty()))
+    }
+
+    /// The frame acts: its plan, replies and deliveries go to the buffers, and the station to its next state. `random_delay` is what the
+    /// caller drew for a burst in O2-3, in bit times of 2.48832 Gbit/s; the engine writes it into Serial_Number_ONU.
+    ///
+    /// After [`Error::FrameLengthUnfit`] and [`Error::BufferTooShort`] (a frame longer than the buffers are for) nothing has
+    /// changed. After [`Error::HlendUnreadable`] and [`Error::HeaderTooLong`] a frame time has passed. Lost delineation is no error:
+    /// the frame is otherwise done, and [`Received::delineation_lost`] says so.
+    pub fn receive(self, random_delay: u32, buffers: &mut Buffers) -> Result<Received<'_>, Error> {
+        let mut counts = [0; 3];
+        let Station { state, memory } = self.station;
+        let answer = raw::frame(state, memory, self.frame, random_delay, &mut buffers.plan, &mut buffers.replies, &mut buffers.deliveries, &mut counts);
+        let delineation_lost = match Error::of(answer) {
+            None => false,
+            Some(Error::DelineationLost) => true,
+            Some(e) => return Err(e),
+        };
+        let [records, replies, bytes] = counts;
+        Ok(Received {
+            plan: &buffers.plan[..4 * records],
+            replies: &buffers.replies[..message::BYTES * replies],
+            deliveries: &buffers.deliveries[..bytes],
+            delineation_lost,
+        })
+    }
+}
+
+/// What a frame's plan, replies and deliveries are written to. Nothing in it is a station's: any frame of any station may use it next.
 #[derive(Clone)]
 pub struct Buffers {
-    pub memory: Vec<u8>,
-    pub plan: Vec<u16>,
-    pub replies: Vec<u8>,
-    pub deliveries: Vec<u8>,
+    plan: Box<[u16]>,
+    replies: Box<[u8]>,
+    deliveries: Box<[u8]>,
 }
 
 impl Buffers {
     /// Buffers for frames of up to so many bytes.
     pub fn new(frame_most: usize) -> Buffers {
         Buffers {
-            memory: vec![0; MEMORY_BYTES],
-            plan: vec![0; PLAN_NUMBERS],
-            replies: vec![0; REPLY_BYTES],
-            deliveries: vec![0; frame_most + MEMORY_BYTES],
+            plan: vec![0; PLAN_NUMBERS].into(),
+            replies: vec![0; REPLY_BYTES].into(),
+            deliveries: vec![0; frame_most.min(FRAME_MOST) + MEMORY_BYTES].into(),
         }
     }
 }
 
-/// What a frame call has written: records of four numbers, messages of 48 bytes, bytes of deliveries. `lost` says that delineation was
-/// lost (answer 6) in a frame that is otherwise done.
-#[derive(Clone, Copy, PartialEq, Eq, Debug)]
-pub struct Counts {
-    pub records: usize,
-    pub replies: usize,
-    pub bytes: usize,
-    pub lost: bool,
+impl std::fmt::Debug for Buffers {
+    fn fmt(&self, f: &mut std::fmt::Formatter<'_>) -> std::fmt::Result {
+        f.debug_struct("Buffers").field("frame_most", &(self.deliveries.len() - MEMORY_BYTES)).finish_non_exhaustive()
+    }
+}
+
+/// What a frame has brought, borrowed from the buffers.
+#[derive(Clone, Copy)]
+pub struct Received<'b> {
+    plan: &'b [u16],
+    replies: &'b [u8],
+    deliveries: &'b [u8],
+    delineation_lost: bool,
+}
+
+impl<'b> Received<'b> {
+    /// The plan: the bursts in order, each a head and the records that continue it.
+    pub fn records(&self) -> impl ExactSizeIterator<Item = Record> + 'b {
+        self.plan.chunks_exact(4).map(|r| Record { alloc: AllocId(r[0]), flags: r[1], start: r[2], grant: r[3] })
+    }
+
+    /// Messages as they are sent, one for each planned burst with PLOAMu, in order. A Registration among them carries the Registration
+    /// ID, which is secret.
+    pub fn replies(&self) -> impl ExactSizeIterator<Item = &'b [u8; message::BYTES]> + 'b {
+        self.replies.chunks_exact(message::BYTES).map(|m| m.try_into().expect("a chunk has this length"))
+    }
+
+    /// The SDUs, in the order in which their last bytes arrived.
+    pub fn deliveries(&self) -> Deliveries<'b> {
+        Deliveries { left: self.deliveries }
+    }
+
+    /// Whether an XGEM header was unreadable or its payload longer than what was left (answer 6): what came before it is here.
+    pub fn delineation_lost(&self) -> bool {
+        self.delineation_lost
+    }
+}
+
+impl std::fmt::Debug for Received<'_> {
+    fn fmt(&self, f: &mut std::fmt::Formatter<'_>) -> std::fmt::Result {
+        f.debug_struct("Received")
+            .field("records", &self.records().len())
+            .field("replies", &self.replies().len())
+            .field("deliveries", &self.deliveries().count())
+            .field("delineation_lost", &self.delineation_lost)
+            .finish()
+    }
 }
 
 /// One record of a plan.
-#[derive(Clone, Copy, PartialEq, Eq, Debug)]
+#[derive(Clone, Copy, PartialEq, Eq, Debug, Hash)]
 pub struct Record {
     pub alloc: AllocId,
+    /// As the laser reads them; the methods have each by its name.
     pub flags: u16,
+    /// The burst's start, on each of its records: the word of 4 bytes in the upstream frame, 0 to 9,719, where its first byte stands (PSBu
+    /// goes in front of it). Counted before any delay: the sender adds its response time and the equalization delay, and in O2-3 the
+    /// random delay.
     pub start: u16,
+    /// GrantSize in words of 4 bytes.
     pub grant: u16,
 }
 
-/// The first records of a plan.
-pub fn records(plan: &[u16], count: usize) -> impl Iterator<Item = Record> + '_ {
-    plan.chunks_exact(4).take(count).map(|r| Record { alloc: AllocId(r[0]), flags: r[1], start: r[2], grant: r[3] })
-}
-
-impl Station {
-    pub fn power_on(serial: [u8; 8], registration: [u8; 36]) -> Station {
-        let mut state = [0; STATE_BYTES];
-        // All three have their lengths: the answer is 0.
-        raw::power_on(&mut state, &serial, &registration);
-        Station(state)
+impl Record {
+    /// The first record of a burst.
+    pub const fn is_head(&self) -> bool {
+        self.flags & 1 != 0
     }
 
-    /// Bytes that were saved. Whether they are a state's is for the next call to say.
-    pub fn from_bytes(bytes: [u8; STATE_BYTES]) -> Station {
-        Station(bytes)
+    /// On a head: the burst sends the next reply.
+    pub const fn ploamu(&self) -> bool {
+        self.flags & 2 != 0
     }
 
-    pub fn as_bytes(&self) -> &[u8; STATE_BYTES] {
-        &self.0
+    pub const fn dbru(&self) -> bool {
+        self.flags & 4 != 0
     }
 
-    /// Where the station stands; `None` for bytes that are no state's.
-    pub fn activation(&self) -> Option<Activation> {
-        Some(match self.0[at::STATE] {
-            1 => Activation::Initial,
-            2 => Activation::SerialNumber,
-            4 => Activation::Ranging,
-            5 => Activation::Operation,
-            6 => Activation::Intermittent,
-            7 => Activation::EmergencyStop,
-            _ => return None,
-        })
+    /// The head's, on each record of the burst.
+    pub const fn fwi(&self) -> bool {
+        self.flags & 8 != 0
     }
 
-    /// The ONU-ID, 1023 while none is held.
-    pub fn onu(&self) -> OnuId {
-        OnuId(u16::from_be_bytes([self.0[at::ONU_ID], self.0[at::ONU_ID + 1]]))
-    }
-
-    /// A frame has arrived. Lost delineation is no error here: the frame is otherwise done, and `lost` says so.
-    pub fn frame(&mut self, frame: &[u8], random_delay: u32, lent: &mut Buffers) -> Result<Counts, Error> {
-        let mut counts = [0usize; 3];
-        let answer =
-            raw::frame(&mut self.0, &mut lent.memory, frame, random_delay, &mut lent.plan, &mut lent.replies, &mut lent.deliveries, &mut counts);
-        let lost = match Error::of(answer) {
-            None => false,
-            Some(Error::DelineationLost) => true,
-            Some(e) => return Err(e),
-        };
-        Ok(Counts { records: counts[0], replies: counts[1], bytes: counts[2], lost })
-    }
-
-    /// No frame has arrived.
-    pub fn lost(&mut self) -> Result<(), Error> {
-        done(raw::lost(&mut self.0))
-    }
-
-    pub fn add_port(&mut self, port: PortId) -> Result<(), Error> {
-        done(raw::add_port(&mut self.0, port.0))
-    }
-
-    pub fn remove_port(&mut self, port: PortId) -> Result<(), Error> {
-        done(raw::remove_port(&mut self.0, port.0))
-    }
-
-    pub fn give_key(&mut self, key: &[u8; 16]) -> Result<(), Error> {
-        done(raw::give_key(&mut self.0, key))
-    }
-
-    /// Delivery k of a frame as its own stretch of the frame, empty where it has none. The state is the one before the frame call.
-    pub fn stretch<'f>(&self, frame: &'f [u8], k: usize) -> Result<&'f [u8], Error> {
-        let mut place = [0usize; 2];
-        match Error::of(raw::stretch(&self.0, frame, k, &mut place)) {
-            None | Some(Error::DelineationLost) => Ok(&frame[place[0]..place[0] + place[1]]),
-            Some(e) => Err(e),
-        }
+    /// The burst profile, 0 to 3: the head's, on each record of the burst.
+    pub const fn profile(&self) -> u8 {
+        (self.flags >> 4) as u8
     }
 }
+
+/// One SDU.
+#[derive(Clone, Copy, PartialEq, Eq, Debug, Hash)]
+pub struct Delivery<'b> {
+    pub port: PortId,
+    pub bytes: &'b [u8],
+}
+
+/// The SDUs of a frame.
+#[derive(Clone)]
+pub struct Deliveries<'b> {
+    left: &'b [u8],
+}
+
+impl<'b> Iterator for Deliveries<'b> {
+    type Item = Delivery<'b>;
+
+    fn next(&mut self) -> Option<Delivery<'b>> {
+        // Port-ID, length, bytes: the proved library writes whole deliveries and nothing else.
+        let (head, rest) = (self.left.get(..4)?, &self.left[4..]);
+        let length = u16::from_be_bytes([head[2], head[3]]).into();
+        let bytes = rest.get(..length)?;
+        self.left = &rest[length..];
+        Some(Delivery { port: PortId(u16::from_be_bytes([head[0], head[1]])), bytes })
+    }
+}
+
+impl std::iter::FusedIterator for Deliveries<'_> {}
 
 /// The fields of an allocation structure.
 #[derive(Clone, Copy, PartialEq, Eq, Debug)]

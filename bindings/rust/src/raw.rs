@@ -1,6 +1,6 @@
 //! The calls as they are exported, each slice as its pointer and its length. A reference is not null (an empty slice's pointer
 //! dangles, aligned and not null), and the borrow checker keeps `&mut` apart: that is all that the boundary must be granted.
-//! The static library becomes part of this crate, so that whoever uses it links nothing else; `-L` says where it is.
+//! The static library becomes part of this crate, so that whoever uses it links nothing else; the build script, or `-L`, says where it is.
 
 #[link(name = "boundary", kind = "static")]
 extern "C" {

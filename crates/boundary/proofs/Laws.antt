@@ -72,7 +72,7 @@ copied src dst x e f =
 module _ (b : List ℕ) (a : Arrival) (counts : List ℕ) (lent : Lent) where
   pub frame-held
       : (s : Station) (r : FrameOutcome) (left : Lent) (n : ℕ) (x k : List ℕ) → decoded b ≡ fields s → leaving r left ≡ frameLeft s a lent
-      → n ≡ answerNumber (r .outcome .answer) → x ≡ stored (r .outcome .station) b → k ≡ counted counts (r .counts)
+      → n ≡ answerNumber (r .answer) → x ≡ stored (r .station) b → k ≡ counted counts (r .counts)
       → _≡_ {A = BuffersLeft} (record { answer = n; state = x; counts = k; lent = left }) (frameBy (decoded b) b a counts lent)
   frame-held s r left n x k ed ef en ex ek =
       let made : _≡_ {A = BuffersLeft} (record { answer = n; state = x; counts = k; lent = left }) (afterFrame (leaving r left) b counts) = λ j. record { answer = en j; state = ex j; counts = ek j; lent = left } in

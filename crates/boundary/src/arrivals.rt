@@ -60,9 +60,8 @@ pub extern "C" fn lingbarrow_frame(
             let r = engine::frame(s, memory, frame, random_delay, plan, replies, deliveries);
             let written = r.counts;
             put_counts(counts, written);
-            let outcome = r.outcome;
-            let answer = outcome.answer;
-            let next = outcome.station;
+            let answer = r.answer;
+            let next = r.station;
             states::put_back(answer, next, state)
         }
         Contents::Unreadable => {

@@ -21,7 +21,7 @@ use Rattle.downstream.specs.Lengths.{lengthFits}
 use Rattle.entries.specs.Limits.{structureOctets}
 use Rattle.ploam.specs.Layout.{messageOctets}
 use Rattle.downstream.specs.Partitions.{hlendOctets, mapEnd, headerEnd, mapOf, messagesOf, payloadOf}
-use Rattle.downstream.specs.Opening.{byHlend, opening}
+use Rattle.downstream.specs.Opening.{byHlend, openingBy, opening}
 
 pub record Fit (s : Station) (f : List ℕ) (room : Bool) (h : Hlend) : Type 0 where
   pub state : inRange s ≡ true
@@ -29,6 +29,10 @@ pub record Fit (s : Station) (f : List ℕ) (room : Bool) (h : Hlend) : Type 0 w
   pub buffers : room ≡ true
   pub reads : readHlend f ≡ fields h
   pub fits : headerEnd h ≤ length f
+
+pub opening-is : (s : Station) (f : List ℕ) (valid room : Bool) → valid ≡ inRange s → openingBy valid f room ≡ opening s f room
+unfolding opening
+opening-is s f valid room e = ap (λ (v : Bool). openingBy v f room) e
 
 isOpened : Opening → Bool
 isOpened (Refused answer) = false

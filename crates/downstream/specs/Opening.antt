@@ -30,5 +30,8 @@ tested f room =
     (byHlend (readHlend f) (length f)))
 
 -- 1: "state out of range"
+abbrev pub openingBy : Bool → List ℕ → Bool → Opening
+openingBy valid f room = cond (not valid) (Refused StateOutOfRange) (tested f room)
+
 unfoldable pub opening : Station → List ℕ → Bool → Opening
-opening s f room = cond (not (inRange s)) (Refused StateOutOfRange) (tested f room)
+opening s f room = openingBy (inRange s) f room

@@ -2,12 +2,11 @@
 // refuses a frame is tested here and nowhere else, for every call that is lent one.
 ghost use mathlib.Core.Path.{_≡_};
 ghost use Rattle.xgtc.specs.Reads.{foundHlend};
-ghost use Rattle.downstream.specs.Opening.{byHlend, tested, opening};
+ghost use Rattle.downstream.specs.Opening.{byHlend, tested, openingBy};
 
 pub mod lengths;
 pub mod partitions;
 
-use station::Station;
 use station::answers::Answer;
 use xgtc::hlend::Hlend;
 use xgtc::hlend::HlendRead;
@@ -47,12 +46,12 @@ fn test(frame: &[u8], room: bool) -> Opening
     by_hlend(xgtc::hlend::read_hlend(frame), frame.len())
 }
 
-// Tested in the order of the numbers. `room` says whether the lent buffers are long enough; who is lent none has room. So small
-// that it is merged into its callers, and the station is not copied for it.
-pub fn open(s: Station, frame: &[u8], room: bool) -> Opening
-    ensures { λ r. ⌜ r ≡ opening s (now (frame .entry)) room ⌝ }
+// Tested in the order of the numbers. The caller says whether the state is in range, so that no station is copied for it, and
+// whether the lent buffers have room; who is lent none has room.
+pub fn open(valid: bool, frame: &[u8], room: bool) -> Opening
+    ensures { λ r. ⌜ r ≡ openingBy valid (now (frame .entry)) room ⌝ }
 {
-    if !validity::in_range(s) {
+    if !valid {
         return Opening::Refused(Answer::StateOutOfRange);
     }
     test(frame, room)

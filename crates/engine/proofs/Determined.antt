@@ -17,7 +17,7 @@ pub frame-determined
     → (a ≡ b) × (x ≡ y)
 frame-determined s arrived lent a b x y p q =
     let same = p ∙ sym q in
-    (ap (λ (l : FrameLeft). record { outcome = l .outcome; counts = l .counts }) same, ap (λ (l : FrameLeft). l .lent) same)
+    (ap (λ (l : FrameLeft). record { answer = l .outcome .answer; station = l .outcome .station; counts = l .counts }) same, ap (λ (l : FrameLeft). l .lent) same)
 
 pub lost-determined : (s : Station) (a b : Outcome) → LostLeaves s a → LostLeaves s b → a ≡ b
 lost-determined s a b p q = p ∙ sym q

@@ -67,7 +67,8 @@ fn place_in(s: Station, h: Hlend, frame: &[u8], k: usize) -> StretchPlace
 pub fn stretch_place(s: Station, frame: &[u8], k: usize) -> StretchPlace
     ensures { λ r. ⌜ PlaceIs s (now (frame .entry)) k r ⌝ }
 {
-    match downstream::open(s, frame, true) {
+    let valid = validity::in_range(s);
+    match downstream::open(valid, frame, true) {
         Opening::Refused(answer) => empty(answer),
         Opening::Unread(answer) => empty(answer),
         Opening::Opened(h) => place_in(s, h, frame, k),

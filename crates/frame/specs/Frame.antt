@@ -40,14 +40,14 @@ pub record FrameLeft : Type 0 where
   pub lent : Lent
 
 abbrev pub leaving : FrameOutcome → Lent → FrameLeft
-leaving r lent = record { outcome = r .outcome; counts = r .counts; lent = lent }
+leaving r lent = record { outcome = record { answer = r .answer; station = r .station }; counts = r .counts; lent = lent }
 
 abbrev pub noCounts : Counts
 noCounts = record { records = 0; replies = 0; bytes = 0 }
 
 -- nothing is written
 abbrev pub without : Answer → Station → FrameOutcome
-without answer s = record { outcome = record { answer = answer; station = s }; counts = noCounts }
+without answer s = record { answer = answer; station = s; counts = noCounts }
 
 -- 1 to 3: "nothing changed"; "no frame time passes"
 abbrev pub refused : Answer → Station → Lent → FrameLeft

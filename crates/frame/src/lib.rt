@@ -23,7 +23,6 @@ use payload::Delineation;
 use payload::Received;
 use station::Station;
 use station::answers::Answer;
-use station::answers::Outcome;
 use xgtc::hlend::Hlend;
 
 // How much a frame call has written: records of four numbers in the plan, messages of 48 octets in the replies, bytes in the
@@ -47,22 +46,21 @@ impl Counts {
     }
 }
 
-// What a frame call returns.
+// What a frame call returns: an outcome, and how much it has written. It is flat, so that the state is not copied once more on its
+// way out.
 pub struct FrameOutcome {
-    pub outcome: Outcome,
+    pub answer: Answer,
+    pub station: Station,
     pub counts: Counts,
 }
 
 fn without(answer: Answer, s: Station) -> FrameOutcome
     ensures { λ r. ⌜ r ≡ without answer s ⌝ }
 {
-    let outcome = Outcome {
-        answer: answer,
-        station: s,
-    };
     let counts = Counts::none();
     FrameOutcome {
-        outcome: outcome,
+        answer: answer,
+        station: s,
         counts: counts,
     }
 }
@@ -167,17 +165,15 @@ fn handle(
     let arrived = s.activation;
     let ended = timing::frame_end(acted, arrived.is_ranging());
     let delineation = r.delineation;
-    let outcome = Outcome {
-        answer: answer_to(delineation),
-        station: ended,
-    };
+    let answer = answer_to(delineation);
     let counts = Counts {
         records: p.records,
         replies: p.messages,
         bytes: r.bytes,
     };
     FrameOutcome {
-        outcome: outcome,
+        answer: answer,
+        station: ended,
         counts: counts,
     }
 }
@@ -202,7 +198,8 @@ pub fn frame(
         replies.len(),
         deliveries.len(),
     );
-    match downstream::open(s, frame, room) {
+    let valid = validity::in_range(s);
+    match downstream::open(valid, frame, room) {
         Opening::Refused(answer) => without(answer, s),
         Opening::Unread(answer) => without(answer, timing::unread_time(s)),
         Opening::Opened(h) => handle(s, h, memory, frame, random_delay, plan, replies, deliveries),

@@ -77,9 +77,9 @@ module _ (p : At) (x : List ℕ) (k : Kind) (goes : p .run .stopped ≡ false) (
 
   pub frame-step : k ≡ Frame → (r : FrameOutcome) (lent : Lent)
       → leaving r lent ≡ frameLeft (p .run .station) (arriving (take (length x - 4) (drop 4 x)) 0) (p .lent)
-      → run ≡ onward (p .run) (r .outcome .station)
-      → new ≡ put text place (lineOf (p .run .number) (r .outcome) (r .counts))
-      → next ≡ place + length (lineOf (p .run .number) (r .outcome) (r .counts))
+      → run ≡ onward (p .run) (r .station)
+      → new ≡ put text place (lineOf (p .run .number) (record { answer = r .answer; station = r .station }) (r .counts))
+      → next ≡ place + length (lineOf (p .run .number) (record { answer = r .answer; station = r .station }) (r .counts))
       → _≡_ {A = Shown} (record { at = record { run = run; lent = lent }; text = new; place = next }) (shownBy (step p x) text place)
   frame-step ek r lent eo =
       let f : take (length x - 4) (drop 4 x) ≡ drop 4 x = take-all (length x - 4) (drop 4 x) (simp length-drop (omega arith)) in

@@ -156,7 +156,12 @@ pub(crate) fn print_record(
         }
         Kind::Frame => {
             let r = engine::frame(s, memory, &octets[HEAD..], 0, plan, replies, deliveries);
-            let o = r.outcome;
+            let answer = r.answer;
+            let next = r.station;
+            let o = Outcome {
+                answer: answer,
+                station: next,
+            };
             let c = r.counts;
             print_outcome(run, o, c, text, place)
         }
