@@ -46,8 +46,7 @@ impl Counts {
     }
 }
 
-// What a frame call returns: an outcome, and how much it has written. It is flat, so that the state is not copied once more on its
-// way out.
+// What a frame call returns: an outcome, and how much it has written.
 pub struct FrameOutcome {
     pub answer: Answer,
     pub station: Station,
