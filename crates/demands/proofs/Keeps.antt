@@ -1,12 +1,13 @@
 -- This engine keeps the paper's other promises.
 -- Assumes nothing.
 use Rattle.engine.proofs.Isolation.{frames-isolated}
-use Rattle.engine.proofs.Counts.{frame-counted}
 use Rattle.engine.proofs.Replies.{frame-replies-kept}
 use Rattle.demands.specs.Engine.{lingbarrow}
 use Rattle.demands.specs.Runs.{lend, runOf}
-use Rattle.demands.specs.Promises.{Isolated, TrueCounts, RepliesKept, NeverOutOfRange}
+use Rattle.demands.specs.Promises.{Isolated, TrueCounts, RepliesKept, NeverOutOfRange, Forgets}
 use Rattle.demands.proofs.Runs.{always-kept, never-out-of-range}
+use Rattle.demands.proofs.Forgotten.{always-forgotten}
+use Rattle.demands.proofs.Counting.{frame-counted}
 
 pub isolated : Isolated lingbarrow
 isolated = frames-isolated
@@ -21,3 +22,6 @@ replies-kept = frame-replies-kept
 
 pub never-one : NeverOutOfRange lingbarrow
 never-one = never-out-of-range
+
+pub forgets : Forgets lingbarrow
+forgets = always-forgotten
