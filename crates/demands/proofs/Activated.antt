@@ -53,7 +53,7 @@ use Rattle.demands.proofs.RefutingRuns.{serial, registration, memory, b
 
 -- ---- a signed message acts
 
-pub signed : List ℕ → List ℕ
+unfoldable pub signed : List ℕ → List ℕ
 signed octets = octets ++ micOf defaultKey Downstream octets
 
 signed-length : (octets : List ℕ) → length octets ≡ coveredOctets → length (signed octets) ≡ messageOctets
@@ -82,19 +82,19 @@ signed-acts s octets h e =
 -- ---- the three messages
 
 -- Assign_ONU-ID to all: 5 to the serial number of zeros
-pub assignOnu : List ℕ
+unfoldable pub assignOnu : List ℕ
 assignOnu = 3 ∷ 255 ∷ 3 ∷ 1 ∷ 0 ∷ 5 ∷ replicate 34 0
 
 -- Ranging_Time to 5: absolute, 0
-rangingOf : List ℕ
+unfoldable pub rangingOf : List ℕ
 rangingOf = 0 ∷ 5 ∷ 4 ∷ 2 ∷ 1 ∷ replicate 35 0
 
 -- Assign_Alloc-ID to 5: 1024, type 1
-assignAlloc : List ℕ
+unfoldable pub assignAlloc : List ℕ
 assignAlloc = 0 ∷ 5 ∷ 10 ∷ 3 ∷ 4 ∷ 0 ∷ 1 ∷ replicate 33 0
 
 -- the station that the first has in O4, both have in O5, and all three
-pub identified : Station
+unfoldable pub identified : Station
 identified = identify searching (record { 0 = 5 })
 
 ranged : Station
@@ -134,7 +134,7 @@ to-alloc = signed-acts ranged assignAlloc refl refl
 
 -- ---- the frame of the three
 
-pub threeMessages : Hlend
+unfoldable pub threeMessages : Hlend
 threeMessages = record { bwmap = 0; ploam = 3 }
 
 behind : List ℕ

@@ -29,14 +29,14 @@ use Rattle.ledger.specs.Plan.{ownOf, Ours}
 use Rattle.ledger.proofs.Runs.{ledger-exact}
 use Rattle.ledger.proofs.Plan.{always-ours}
 use Rattle.frame.specs.Given.{Arrival, Lent}
-use Rattle.frame.specs.Frame.{FrameLeft, noCounts, plannedIn, done, handled, frameLeft}
+use Rattle.frame.specs.Frame.{FrameLeft, noCounts, plannedIn, payloadIn, done, handled, frameLeft}
 use Rattle.frame.specs.declared.Counts.{Counts}
 use Rattle.engine.specs.Answers.{Row}
 use Rattle.demands.specs.Runs.{Call, frame, lost, addPort, removePort, giveKey, Progress, after, run, start, runOf}
 use Rattle.demands.specs.Demand1.{Demand1}
 use Rattle.demands.specs.Demand2.{Demand2}
 use Rattle.demands.specs.Demand3.{sendings, burstsFrom, Demand3}
-use Rattle.demands.specs.Promises.{grantsIn, TrueCounts}
+use Rattle.demands.specs.Promises.{grantsIn, messagesIn, TrueCounts}
 use Rattle.demands.specs.Wrong.{withPlan, readBy, refusesAll, fixedPlan, writesNothing, writesNoHeader, firstStructureIn, firstStructure, inventedRecords, inventedReplies, inventedBytes, oneSerialNumber}
 use Rattle.demands.proofs.Runs.{Kept, call-kept, started}
 use Rattle.demands.proofs.GivenIn.{given-in}
@@ -109,7 +109,7 @@ refuses-all-in-silence =
 -- ---- the bare frame, which has no map, in O1, where nothing may be sent
 
 counts-bare : frameLeft fresh (arrives bare) lent .counts ≡ noCounts
-unfolding handled done plannedIn bare noEntries
+unfolding handled done plannedIn payloadIn bare noEntries
 counts-bare = ap (λ (x : FrameLeft). x .counts) (sym left-bare)
 
 plan-bare : frameLeft fresh (arrives bare) lent .lent .plan ≡ buffers .plan
@@ -134,7 +134,8 @@ pub invented-replies : TrueCounts inventedReplies → ⊥
 invented-replies d =
     let e = d serial registration memory [] (arrives bare) buffers .replies in
     let n : _≡_ {A = ℕ} 1 0
-    = ap (λ (c : Counts). c .replies + 1) (sym counts-bare) ∙ rw counts-bare at e in
+    = ap (λ (c : Counts). c .replies + 1) (sym counts-bare) ∙ e
+    ∙ ap (λ (c : Counts). messagesIn (laser (c .records) (frameLeft fresh (arrives bare) lent .lent .plan))) counts-bare in
     omega (arith, n)
 
 pub invented-bytes : TrueCounts inventedBytes → ⊥

@@ -1,6 +1,6 @@
 -- The counts are true at every frame of a run of this engine.
 -- Assumes nothing.
-use Prim.Native.Nat.{ℕ, _+_}
+use Prim.Native.Nat.{ℕ, suc, _+_}
 use native.Mathlib.Omega.{arith}
 use mathlib.Core.Path.{_≡_, _∙_, refl, sym, ap, subst}
 use mathlib.Core.Bool.{Bool, true, false, cond, true≢false}
@@ -32,7 +32,7 @@ use Rattle.demands.specs.Promises.{grantsIn, messagesIn, Handed, Untouch
 
 length-grants : (l : List Allocation) → length (grantsOf l) ≡ length l
 length-grants [] = refl
-length-grants (a ∷ l) = ap (λ (n : ℕ). 1 + n) (length-grants l)
+length-grants (a ∷ l) = ap suc (length-grants l)
 
 grants-are : (l : List Series) → grantsIn (burstsOf l) ≡ records l
 grants-are [] = refl

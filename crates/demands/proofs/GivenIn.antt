@@ -18,6 +18,8 @@ use Rattle.ledger.proofs.Given.{given-by}
 use Rattle.frame.specs.Given.{Arrival, Lent}
 use Rattle.xgtc.specs.declared.hlend.Hlend.{Hlend}
 use Rattle.downstream.specs.Partitions.{messagesOf}
+use Rattle.frame.specs.Frame.{plannedIn}
+use Rattle.plan.specs.Plan.{messages}
 use Rattle.demands.specs.Engine.{Engine}
 use Rattle.demands.specs.Runs.{Call, frame, lost, addPort, removePort, giveKey, Buffers, Progress, lend, isDone, isUnread, passes, arrived, befell, after, run, start}
 use Rattle.demands.specs.Demand3.{MessageOf, GivenIn}
@@ -57,51 +59,56 @@ was-heard m (keyGiven octets ∷ since) before = was-heard m since before
 
 -- ---- a frame's events
 
+first-or : (m x : List ℕ) (l k : List (List ℕ)) → Among m (x ∷ k) → Among m (x ∷ l) ⊎ Among m k
+first-or m x l k here = inl here
+first-or m x l k (there b) = inr b
+
 by-messages : (m : List ℕ) (l : List (List ℕ)) (h : List Event) → Among m (heard (event.messages l h)) → Among m l ⊎ Among m (heard h)
 unfolding heard
 by-messages m [] h a = inr a
 by-messages m (x ∷ l) h a = go (by-messages m l (considered x ∷ h) a)
   where
-    first : {k : List (List ℕ)} → Among m (x ∷ k) → Among m (x ∷ l) ⊎ Among m k
-    first here = inl here
-    first (there b) = inr b
-
     go : Among m l ⊎ Among m (heard (considered x ∷ h)) → Among m (x ∷ l) ⊎ Among m (heard h)
     go (inl b) = inl (there b)
-    go (inr b) = first b
+    go (inr b) = first-or m x l (heard h) b
 
 by-replies : (m : List ℕ) (k : ℕ) (h : List Event) → Among m (heard (event.replies k h)) → Among m (heard h)
 unfolding heard
 by-replies m zero h a = a
 by-replies m (suc k) h a = by-replies m k (replied ∷ h) a
 
-split : (m : List ℕ) (l : List (List ℕ)) → Among m l → (before : List (List ℕ)) × ((behind : List (List ℕ)) × (l ≡ before ++ (m ∷ behind)))
-split m (x ∷ l) here = ([], l, refl)
+record Split (m : List ℕ) (l : List (List ℕ)) : Type 0 where
+  pub before : List (List ℕ)
+  pub behind : List (List ℕ)
+  pub lies : l ≡ before ++ (m ∷ behind)
+
+split : (m : List ℕ) (l : List (List ℕ)) → Among m l → Split m l
+split m (x ∷ l) here = record { before = []; behind = l; lies = refl }
 split m (x ∷ l) (there a) =
     let s = split m l a in
-    (x ∷ s .0, s .1 .0, ap (λ (k : List (List ℕ)). x ∷ k) (s .1 .1))
+    record { before = x ∷ s .before; behind = s .behind; lies = ap (λ (k : List (List ℕ)). x ∷ k) (s .lies) }
 
 message-of : (a : Arrival) (hl : Hlend) → readHlend (a .octets) ≡ fields hl → (m : List ℕ) → Among m (messagesIn (messagesOf hl (a .octets))) → MessageOf a m
 message-of a hl e m among =
     let s = split m (messagesIn (messagesOf hl (a .octets))) among in
-    record { hlend = hl; reads = e; before = s .0; behind = s .1 .0; lies = s .1 .1 }
+    record { hlend = hl; reads = e; before = s .before; behind = s .behind; lies = s .lies }
 
 by-arrived : (m : List ℕ) (r : Found Hlend) (s : Station) (a : Arrival) (lent : Lent) (h : List Event) → readHlend (a .octets) ≡ r
     → Among m (heard (arrived r s a lent h)) → MessageOf a m ⊎ Among m (heard h)
 unfolding heard
 by-arrived m unreadable s a lent h e among = inr among
 by-arrived m short s a lent h e among = inr among
-by-arrived m (fields hl) s a lent h e among = go (by-messages m (messagesIn (messagesOf hl (a .octets))) _ among)
+by-arrived m (fields hl) s a lent h e among = go (messages (plannedIn s hl a)) (by-messages m (messagesIn (messagesOf hl (a .octets))) _ among)
   where
-    go : {k : ℕ} → Among m (messagesIn (messagesOf hl (a .octets))) ⊎ Among m (heard (event.replies k h)) → MessageOf a m ⊎ Among m (heard h)
-    go (inl b) = inl (message-of a hl e m b)
-    go {k} (inr b) = inr (by-replies m k h b)
+    go : (k : ℕ) → Among m (messagesIn (messagesOf hl (a .octets))) ⊎ Among m (heard (event.replies k h)) → MessageOf a m ⊎ Among m (heard h)
+    go k (inl b) = inl (message-of a hl e m b)
+    go k (inr b) = inr (by-replies m k h b)
 
 by-befell : (m : List ℕ) (n : ℕ) (s : Station) (a : Arrival) (lent : Lent) (h : List Event) → Among m (heard (befell n s a lent h)) → MessageOf a m ⊎ Among m (heard h)
+unfolding heard
 by-befell m n s a lent h = go (isDone n) (isUnread n)
   where
     go : (b c : Bool) → Among m (heard (cond b (arrived (readHlend (a .octets)) s a lent h) (cond c (unread ∷ h) h))) → MessageOf a m ⊎ Among m (heard h)
-    unfolding heard
     go true c among = by-arrived m (readHlend (a .octets)) s a lent h refl among
     go false true among = inr among
     go false false among = inr among
@@ -139,7 +146,6 @@ module _ (E : Engine) (first : Station) (m : List ℕ) where
   by-call st lost l among = inr (go (passes (answerNumber (E .lost (st .station) .answer))) among)
     where
       go : (b : Bool) → Among m (heard (cond b (event.lost ∷ st .history) (st .history))) → Among m (heard (st .history))
-      unfolding heard
       go true x = x
       go false x = x
   by-call st (addPort port) l among = inr among
@@ -156,6 +162,7 @@ module _ (E : Engine) (first : Station) (m : List ℕ) where
 
 -- what is in the ledger of a run's history stands in octets 5-6 of a message of one of its frames
 pub given-in : (E : Engine) (first : Station) (memory : List ℕ) (calls : List Call) (n : ℕ) → InLedger (ledger first (run E first (start first memory) calls .history)) n → GivenIn calls n
+unfolding heard
 given-in E first memory calls n i = whole (given-by first n (run E first (start first memory) calls .history) .0 i)
   where
     nothing-heard : (m : List ℕ) (l : List (List ℕ)) → l ≡ [] → Among m l → ⊥
@@ -173,7 +180,6 @@ given-in E first memory calls n i = whole (given-by first n (run E first (start 
         go (by-run E first (g .message) calls (start first memory) (subst (λ (h : List Event). Among (g .message) (heard h)) (sym (g .history)) (was-heard (g .message) (g .since) (g .earlier))))
       where
         go : Brought calls (g .message) ⊎ Among (g .message) (heard []) → GivenIn calls n
-        unfolding heard
         go (inl b) =
             record {
               before = b .before;

@@ -127,6 +127,7 @@ module _ (call : Station → Arrival → Lent → FrameLeft) (lose : Station →
   pub asked : Demand3 (withCalls call lose) → (calls : List Call) (right own : Station) → Stands (runOf (withCalls call lose) serial registration memory calls) right own
       → burstsOfRun (withCalls call lose) serial registration memory calls ≡ [] → (f : List ℕ) (h : Hlend) → readHlend f ≡ fields h
       → answerNumber (call own (arrives f) lent .outcome .answer) ≡ 0 → Asked right (mapOf h f) (sendings (call own (arrives f) lent))
+  unfolding hlendIn
   asked d calls right own k dark f h reads answer =
       let st = runOf (withCalls call lose) serial registration memory calls in
       let e = same st right own k f in
