@@ -11,9 +11,9 @@ use Rattle.xgem.specs.Writes as writes
 use Rattle.xgem.specs.Writes.{number}
 use Rattle.xgem.specs.declared.words.Written as framed
 use Rattle.station.specs.declared.Station.{Station}
-use Rattle.station.specs.declared.answers.Answer.the-variants.{Done}
-use Rattle.station.specs.Answers.{answerNumber}
-use Rattle.station.specs.declared.answers.Outcome.{Outcome}
+use Rattle.answers.specs.declared.Answer.the-variants.{Done}
+use Rattle.answers.specs.Answers.{answerNumber}
+use Rattle.station.specs.declared.Outcome.{Outcome}
 use Rattle.frame.specs.declared.Counts.{Counts}
 use Rattle.frame.specs.declared.FrameOutcome.{FrameOutcome}
 use Rattle.engine.specs.declared.stretching.StretchPlace.{StretchPlace}

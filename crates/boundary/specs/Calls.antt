@@ -8,12 +8,12 @@ use lib.Dec.{leb}
 use lib.ListN.{length, take}
 use Rattle.xgem.specs.Reads.{Found, fields, unreadable, short}
 use Rattle.station.specs.declared.Station.{Station}
-use Rattle.station.specs.declared.answers.Answer.the-variants.{Done, StateOutOfRange, BufferTooShort}
-use Rattle.station.specs.Answers.{answerNumber}
+use Rattle.answers.specs.declared.Answer.the-variants.{Done, StateOutOfRange, BufferTooShort}
+use Rattle.answers.specs.Answers.{answerNumber}
 use Rattle.station.specs.Limits.{serialOctets, registrationOctets}
 use Rattle.station.specs.Station.{powerOn}
 use Rattle.link.specs.Limits.{keyOctets}
-use Rattle.station.specs.declared.answers.Outcome.{Outcome}
+use Rattle.station.specs.declared.Outcome.{Outcome}
 use Rattle.host.specs.Host.{afterAdd, afterRemove, afterKey}
 use Rattle.engine.specs.Lods.{lostLeft}
 use Rattle.layout.specs.Layout.{stateBytes, decoded, stored}

@@ -9,8 +9,8 @@ use lib.ListN.{length}
 use Rattle.xgem.specs.Reads.{Found, fields, unreadable, short}
 use Rattle.xgem.specs.Writes.{put}
 use Rattle.station.specs.declared.Station.{Station}
-use Rattle.station.specs.declared.answers.Answer.the-variants.{StateOutOfRange, BufferTooShort}
-use Rattle.station.specs.Answers.{answerNumber}
+use Rattle.answers.specs.declared.Answer.the-variants.{StateOutOfRange, BufferTooShort}
+use Rattle.answers.specs.Answers.{answerNumber}
 use Rattle.frame.specs.declared.Counts.{Counts}
 use Rattle.frame.specs.Given.{Arrival, Lent}
 use Rattle.frame.specs.Frame.{FrameLeft, noCounts, frameLeft}

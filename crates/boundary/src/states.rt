@@ -4,15 +4,15 @@ ghost use Prim.Native.Nat.{_≤_};
 ghost use lib.ListN.{length, take};
 ghost use Rattle.link.specs.Limits.{keyOctets};
 ghost use Rattle.station.specs.Limits.{serialOctets, registrationOctets};
-ghost use Rattle.station.specs.Answers.{answerNumber};
+ghost use Rattle.answers.specs.Answers.{answerNumber};
 ghost use Rattle.layout.specs.Layout.{stored};
 ghost use Rattle.boundary.specs.Calls.{StateIs, lostOn, addOn, removeOn, keyOn, powerOnIn};
+use answers::Answer;
 use ids::PortId;
 use layout::Contents;
 use link::KEY_OCTETS;
+use station::Outcome;
 use station::Station;
-use station::answers::Answer;
-use station::answers::Outcome;
 use station::limits::REGISTRATION_OCTETS;
 use station::limits::SERIAL_OCTETS;
 

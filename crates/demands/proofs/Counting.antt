@@ -11,9 +11,9 @@ use Rattle.xgtc.specs.declared.hlend.Hlend.{Hlend}
 use Rattle.xgem.specs.Reads.{fields}
 use Rattle.xgtc.specs.Reads.{readHlend}
 use Rattle.station.specs.declared.Station.{Station}
-use Rattle.station.specs.declared.answers.Answer.{Answer}
-use Rattle.station.specs.declared.answers.Answer.the-variants.{StateOutOfRange, FrameLengthUnfit, BufferTooShort, HlendUnreadable, HeaderTooLong}
-use Rattle.station.specs.Answers.{answerNumber}
+use Rattle.answers.specs.declared.Answer.{Answer}
+use Rattle.answers.specs.declared.Answer.the-variants.{StateOutOfRange, FrameLengthUnfit, BufferTooShort, HlendUnreadable, HeaderTooLong}
+use Rattle.answers.specs.Answers.{answerNumber}
 use Rattle.timing.specs.Timing.{unreadTime}
 use Rattle.series.specs.Series.{Series}
 use Rattle.plan.specs.Plan.{records, messages}

@@ -10,7 +10,7 @@ use Rattle.xgtc.specs.declared.hlend.Hlend.{Hlend}
 use Rattle.xgem.specs.Reads.{Found}
 use Rattle.xgtc.specs.Reads.{readHlend}
 use Rattle.station.specs.declared.Station.{Station}
-use Rattle.station.specs.Answers.{answerNumber}
+use Rattle.answers.specs.Answers.{answerNumber}
 use Rattle.timing.specs.Timing.{frameEnd}
 use Rattle.effects.specs.Changes.{identify}
 use Rattle.messages.specs.Receiving.{receiveAll}

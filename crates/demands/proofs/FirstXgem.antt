@@ -22,7 +22,7 @@ use Rattle.xgem.specs.declared.frame.XgemHeader.{XgemHeader}
 use Rattle.xgem.specs.Layouts.{xgemOf}
 use Rattle.xgem.specs.Reads.{Found, fields, unreadable, short, taken}
 use Rattle.station.specs.declared.Station.{Station}
-use Rattle.station.specs.Answers.{answerNumber}
+use Rattle.answers.specs.Answers.{answerNumber}
 use Rattle.payload.specs.declared.frames.Next.the-variants.{Frame, Done}
 use Rattle.payload.specs.Frames.{Xgem, Parsed, ahead, nextOf, parse}
 use Rattle.payload.specs.Memory.{Receiver, delivery, partial, taken as received-frame, done as done-frame}

@@ -8,9 +8,9 @@ use mathlib.Core.Bool.{true, false, cond, false≢true}
 use mathlib.Core.List.{List, [], _∷_}
 use Rattle.station.specs.declared.Activation.the-variants.{Intermittent}
 use Rattle.station.specs.declared.Station.{Station}
-use Rattle.station.specs.declared.answers.Answer.the-variants.{Done}
-use Rattle.station.specs.declared.answers.Outcome.{Outcome}
-use Rattle.station.specs.Answers.{answerNumber}
+use Rattle.answers.specs.declared.Answer.the-variants.{Done}
+use Rattle.station.specs.declared.Outcome.{Outcome}
+use Rattle.answers.specs.Answers.{answerNumber}
 use Rattle.link.specs.declared.Allocs.{Allocs}
 use Rattle.station.specs.Limits.{to2}
 use Rattle.link.specs.Link.{noAllocs}

@@ -8,7 +8,7 @@ use mathlib.Core.List.{List, [], _∷_, _++_}
 use Rattle.xgem.specs.Reads.{Found, fields, unreadable, short}
 use Rattle.xgtc.specs.Reads.{readHlend}
 use Rattle.station.specs.declared.Station.{Station}
-use Rattle.station.specs.Answers.{answerNumber}
+use Rattle.answers.specs.Answers.{answerNumber}
 use Rattle.messages.specs.Receiving.{messagesIn}
 use Rattle.ledger.specs.Events.{Event, considered, ended, unread, replied, walked, carriedOver, portAdded, portRemoved, keyGiven, stationOf}
 use Rattle.ledger.specs.Events as event

@@ -11,7 +11,6 @@ use Rattle.ids.specs.Ids.{managementPort}
 use Rattle.xgtc.specs.declared.hlend.Hlend.{Hlend}
 use Rattle.xgem.specs.Reads.{Found, fields, unreadable, short}
 use Rattle.xgtc.specs.Reads.{readHlend}
-use Rattle.xgem.specs.declared.words.Written.the-variants.{Done as WriteDone, Refused as WriteRefused}
 use Rattle.octets.specs.Octets.{octets}
 use Rattle.xgem.specs.Layouts.{xgemFits, xgemWord}
 use Rattle.xgtc.specs.Layouts.{hlendFits, hlendWord, allocationFits, allocationWord}
@@ -19,17 +18,17 @@ use Rattle.xgem.specs.Writes as writing
 use Rattle.xgem.specs.Writes.{put, wrote, carrying, xgemFrame}
 use Rattle.ids.specs.declared.PortId.{PortId}
 use Rattle.ids.specs.Ids.{assignablePort}
-use Rattle.station.specs.declared.answers.Answer.{Answer}
+use Rattle.answers.specs.declared.Answer.{Answer}
 use Rattle.station.specs.declared.Station.{Station}
-use Rattle.station.specs.declared.answers.Answer.the-variants.{Done, StateOutOfRange, FrameLengthUnfit, HeaderTooLong, DelineationLost, PortOutOfRange, PortHeldOrNotHeld, SlotsTaken, KeyRefused}
-use Rattle.station.specs.Answers.{answerNumber}
+use Rattle.answers.specs.declared.Answer.the-variants.{Done, StateOutOfRange, FrameLengthUnfit, HeaderTooLong, DelineationLost, PortOutOfRange, PortHeldOrNotHeld, SlotsTaken, KeyRefused, NotWritten}
+use Rattle.answers.specs.Answers.{answerNumber}
 use Rattle.station.specs.States.{holdsIdentity, isOperating}
 use Rattle.link.specs.Link.{withKey, installed}
 use Rattle.ports.specs.Ports.{portPlace, vacancy, addPort, removePort}
 use Rattle.station.specs.Station.{powerOn, withLink, withPorts}
 use Rattle.validity.specs.Ranges.{inRange}
 use Rattle.timing.specs.Timing.{lostTime}
-use Rattle.station.specs.declared.answers.Outcome.{Outcome}
+use Rattle.station.specs.declared.Outcome.{Outcome}
 use Rattle.ids.specs.Places.{isHeld}
 use Rattle.host.specs.Host.{outcome, answerToAdd, answerToRemove, answerToKey, afterAdd, afterRemove, afterKey}
 use Rattle.payload.specs.Frames.{parse}
@@ -167,7 +166,7 @@ write-row fit octets t = go fit refl (leb (length octets) (length t)) refl
   where
     go
         : (a : Bool) → fit ≡ a → (b : Bool) → leb (length octets) (length t) ≡ b
-        → Writes fit octets t (cond {A = writing.WriteLeft} (a && b) (record { answer = WriteDone; target = put t octets }) (record { answer = WriteRefused; target = t }))
+        → Writes fit octets t (cond {A = writing.WriteLeft} (a && b) (record { answer = Done; target = put t octets }) (record { answer = NotWritten; target = t }))
     go true p true q = WriteRow.done p (leb-true (length octets) (length t) q) refl
     go true p false q = WriteRow.too-short p (leb-false (length octets) (length t) q) refl
     go false p b q = WriteRow.too-wide p refl

@@ -6,7 +6,7 @@ use mathlib.Core.Path.{_≡_, _∙_, ap, subst}
 use mathlib.Core.Bool.{true}
 use mathlib.Core.List.{List}
 use Rattle.station.specs.declared.Station.{Station}
-use Rattle.station.specs.Answers.{answerNumber}
+use Rattle.answers.specs.Answers.{answerNumber}
 use Rattle.station.specs.Limits.{upstreamWords}
 use Rattle.station.specs.Station.{powerOn}
 use Rattle.ledger.specs.Events.{stationOf}

@@ -19,7 +19,7 @@ use Rattle.xgem.specs.Reads.{Found, fields, unreadable, short, taken}
 use Rattle.xgtc.specs.Reads.{readHlend}
 use Rattle.station.specs.declared.Activation.the-variants.{SerialNumber}
 use Rattle.station.specs.declared.Station.{Station}
-use Rattle.station.specs.Answers.{answerNumber}
+use Rattle.answers.specs.Answers.{answerNumber}
 use Rattle.station.specs.Limits.{serialOctets, registrationOctets}
 use Rattle.station.specs.Station.{powerOn, enter}
 use Rattle.validity.specs.Ranges.{inRange}
@@ -36,7 +36,7 @@ use Rattle.invariants.proofs.InRange.{sound-in-range, power-on-sound, enter-sou
 use Rattle.ledger.specs.Events.{stationOf}
 use Rattle.ledger.specs.Ledger.{holds}
 use Rattle.ledger.proofs.Runs.{ledger-exact}
-use Rattle.station.specs.declared.answers.Outcome.{Outcome}
+use Rattle.station.specs.declared.Outcome.{Outcome}
 use Rattle.downstream.specs.Lengths.{lengthFits}
 use Rattle.frame.specs.Given.{Arrival, Lent, arriving, lending, replyOctets, enough}
 use Rattle.downstream.specs.Partitions.{mapOf}

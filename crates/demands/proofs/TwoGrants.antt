@@ -18,7 +18,7 @@ use Rattle.xgtc.specs.Layouts.{hlendOf, allocationOf}
 use Rattle.xgem.specs.Reads.{Found, fields, taken}
 use Rattle.xgtc.specs.Reads.{readHlend}
 use Rattle.station.specs.declared.Station.{Station}
-use Rattle.station.specs.Answers.{answerNumber}
+use Rattle.answers.specs.Answers.{answerNumber}
 use Rattle.entries.specs.Standings.{standing, sorted, startUnfit, noRoom, continues, discovery}
 use Rattle.series.specs.Series.{Series, entryAt, standings, seriesOf, outset, planned, judged, wordsOf}
 use Rattle.bwmap.specs.Promises.{Account}

@@ -13,15 +13,15 @@ use Rattle.xgem.specs.declared.frame.XgemHeader.{XgemHeader}
 use Rattle.octets.specs.Octets.{octets}
 use Rattle.xgem.specs.Layouts.{xgemFits, xgemWord}
 use Rattle.xgtc.specs.Layouts.{hlendFits, hlendWord, allocationFits, allocationWord}
-use Rattle.xgem.specs.Writes.{WriteLeft, number, put, carrying, xgemFrame}
+use Rattle.xgem.specs.Writes.{WriteLeft, put, carrying, xgemFrame}
 use Rattle.xgem.specs.Reads.{fields, unreadable}
 use Rattle.xgtc.specs.Reads.{readHlend}
 use Rattle.ids.specs.declared.PortId.{PortId}
 use Rattle.ids.specs.Ids.{assignablePort}
 use Rattle.station.specs.declared.Station.{Station}
 use Rattle.station.specs.declared.Activation.the-variants.{Initial}
-use Rattle.station.specs.declared.answers.Answer.the-variants.{StateOutOfRange, FrameLengthUnfit, HlendUnreadable, HeaderTooLong}
-use Rattle.station.specs.Answers.{answerNumber}
+use Rattle.answers.specs.declared.Answer.the-variants.{StateOutOfRange, FrameLengthUnfit, HlendUnreadable, HeaderTooLong}
+use Rattle.answers.specs.Answers.{answerNumber}
 use Rattle.station.specs.States.{holdsIdentity}
 use Rattle.link.specs.declared.Response.the-variants.{Registration}
 use Rattle.link.specs.Limits.{addedAllocs, mostOwed, keyOctets}
@@ -131,7 +131,7 @@ pub data WriteRow (fit : Bool) (octets target left : List ℕ) : ℕ → Type 0 
 
 -- what a writer leaves of the octets that it is to write, where fit says whether every value fits its field
 abbrev pub Writes : Bool → List ℕ → List ℕ → WriteLeft → Type 0
-Writes fit octets target left = WriteRow fit octets target (left .target) (number (left .answer))
+Writes fit octets target left = WriteRow fit octets target (left .target) (answerNumber (left .answer))
 
 pub record Demand1 (E : Engine) : Type 0 where
   pub power-on : (serial registration : List ℕ) → PoweredOn serial registration (E .powerOn serial registration)

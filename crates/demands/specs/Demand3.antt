@@ -14,7 +14,7 @@ use Rattle.xgtc.specs.declared.hlend.Hlend.{Hlend}
 use Rattle.xgem.specs.Reads.{fields}
 use Rattle.xgtc.specs.Reads.{readHlend}
 use Rattle.station.specs.declared.Station.{Station}
-use Rattle.station.specs.Answers.{answerNumber}
+use Rattle.answers.specs.Answers.{answerNumber}
 use Rattle.station.specs.Limits.{upstreamWords}
 use Rattle.station.specs.States.{holdsIdentity, silent}
 use Rattle.ploam.specs.Layout.{number16}

@@ -11,7 +11,7 @@ use Rattle.xgem.specs.Writes as writing
 use Rattle.xgtc.specs.Writes as xgtc-writing
 use Rattle.station.specs.declared.Station.{Station}
 use Rattle.station.specs.Station as station
-use Rattle.station.specs.declared.answers.Outcome.{Outcome}
+use Rattle.station.specs.declared.Outcome.{Outcome}
 use Rattle.host.specs.Host.{afterAdd, afterRemove, afterKey}
 use Rattle.frame.specs.Given.{Arrival, Lent}
 use Rattle.frame.specs.Frame.{FrameLeft, frameLeft}

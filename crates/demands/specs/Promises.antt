@@ -12,7 +12,7 @@ use Rattle.xgem.specs.Reads.{fields}
 use Rattle.xgtc.specs.Reads.{readHlend}
 use Rattle.ploam.specs.Layout.{messageOctets}
 use Rattle.station.specs.declared.Station.{Station}
-use Rattle.station.specs.Answers.{answerNumber}
+use Rattle.answers.specs.Answers.{answerNumber}
 use Rattle.station.specs.Limits.{registrationOctets}
 use Rattle.station.specs.States.{holdsIdentity}
 use Rattle.link.specs.Link.{nothing}

@@ -10,9 +10,8 @@ use Rattle.xgtc.specs.declared.hlend.Hlend.{Hlend}
 use Rattle.xgem.specs.Reads.{Found, fields, unreadable, short}
 use Rattle.xgtc.specs.Reads.{readHlend}
 use Rattle.xgem.specs.Writes as writing
-use Rattle.xgem.specs.declared.words.Written.the-variants as Written
 use Rattle.station.specs.declared.Station.{Station}
-use Rattle.station.specs.declared.answers.Answer.the-variants.{StateOutOfRange}
+use Rattle.answers.specs.declared.Answer.the-variants.{Done, StateOutOfRange}
 use Rattle.link.specs.Link.{noAllocs, withAllocs}
 use Rattle.station.specs.Limits.{serialOctets}
 use Rattle.station.specs.States.{isOperating, isRanging}
@@ -24,7 +23,7 @@ use Rattle.payload.specs.Memory.{receiverOf}
 use Rattle.payload.specs.Walk.{Walked, steps}
 use Rattle.downstream.specs.Partitions.{headerEnd, messagesOf, payloadOf}
 use Rattle.frame.specs.declared.Counts.{Counts}
-use Rattle.station.specs.declared.answers.Outcome.{Outcome}
+use Rattle.station.specs.declared.Outcome.{Outcome}
 use Rattle.frame.specs.Given.{Arrival, Lent}
 use Rattle.frame.specs.Frame.{FrameLeft, refused, plannedIn, repliesIn, payloadIn, foundBy, done, handled, frameLeft}
 use Rattle.engine.specs.Lods.{lostLeft}
@@ -84,7 +83,7 @@ writesNothing = withFrame (λ s a lent. record { outcome = frameLeft s a lent .o
 
 -- the same of the writers: each says that it has written, and the target is as it was
 abbrev pub unwritten : List ℕ → writing.WriteLeft
-unwritten target = record { answer = Written.Done; target = target }
+unwritten target = record { answer = Done; target = target }
 
 abbrev pub writesNoHeader : Engine
 writesNoHeader =

@@ -4,7 +4,7 @@ use Prim.Native.Nat.{ℕ}
 use mathlib.Core.Path.{_≡_, _∙_, sym, ap}
 use mathlib.Core.List.{List}
 use Rattle.station.specs.declared.Station.{Station}
-use Rattle.station.specs.declared.answers.Outcome.{Outcome}
+use Rattle.station.specs.declared.Outcome.{Outcome}
 use Rattle.frame.specs.declared.FrameOutcome.{FrameOutcome}
 use Rattle.engine.specs.declared.stretching.StretchPlace.{StretchPlace}
 use Rattle.frame.specs.Given.{Arrival, Lent}

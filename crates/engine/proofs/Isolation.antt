@@ -17,7 +17,7 @@ use Rattle.xgem.specs.Reads.{fields, taken}
 use Rattle.xgtc.specs.Reads.{readHlend}
 use Rattle.hec.specs.Reads.{reading}
 use Rattle.station.specs.declared.Station.{Station}
-use Rattle.station.specs.declared.answers.Answer.the-variants.{StateOutOfRange, FrameLengthUnfit, BufferTooShort}
+use Rattle.answers.specs.declared.Answer.the-variants.{StateOutOfRange, FrameLengthUnfit, BufferTooShort}
 use Rattle.station.specs.States.{isOperating}
 use Rattle.validity.specs.Ranges.{inRange}
 use Rattle.entries.specs.Limits.{structureOctets}

@@ -32,7 +32,7 @@ use Rattle.downstream.specs.Opening.{opening}
 use Rattle.downstream.proofs.Laws.{opened}
 use Rattle.engine.specs.Stretch.{empty, answerIf, inFrame, placeIn, placeBy, stretchPlace, cut}
 use Rattle.engine.specs.declared.stretching.StretchPlace.{StretchPlace}
-use Rattle.station.specs.declared.answers.Answer.the-variants.{Done}
+use Rattle.answers.specs.declared.Answer.the-variants.{Done}
 use Rattle.station.specs.States.{isOperating}
 use Rattle.payload.proofs.Walks.{frame-inside, parse-done, parse-lost, parse-next}
 

@@ -15,9 +15,9 @@ use Rattle.xgtc.specs.Layouts.{hlendOf}
 use Rattle.xgem.specs.Reads.{Found, fields, unreadable, short, taken}
 use Rattle.xgtc.specs.Reads.{readHlend}
 use Rattle.station.specs.declared.Station.{Station}
-use Rattle.station.specs.declared.answers.Answer.{Answer}
-use Rattle.station.specs.declared.answers.Answer.the-variants.{Done, StateOutOfRange, FrameLengthUnfit, BufferTooShort, HlendUnreadable, HeaderTooLong, DelineationLost}
-use Rattle.station.specs.Answers.{answerNumber}
+use Rattle.answers.specs.declared.Answer.{Answer}
+use Rattle.answers.specs.declared.Answer.the-variants.{Done, StateOutOfRange, FrameLengthUnfit, BufferTooShort, HlendUnreadable, HeaderTooLong, DelineationLost}
+use Rattle.answers.specs.Answers.{answerNumber}
 use Rattle.station.specs.States.{isOperating}
 use Rattle.validity.specs.Ranges.{inRange}
 use Rattle.validity.proofs.Tests.{both}

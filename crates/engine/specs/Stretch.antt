@@ -10,8 +10,8 @@ use lib.ListN.{take, drop}
 use Rattle.ids.specs.Ids.{managementPort}
 use Rattle.xgtc.specs.declared.hlend.Hlend.{Hlend}
 use Rattle.station.specs.declared.Station.{Station}
-use Rattle.station.specs.declared.answers.Answer.{Answer}
-use Rattle.station.specs.declared.answers.Answer.the-variants.{Done, DelineationLost}
+use Rattle.answers.specs.declared.Answer.{Answer}
+use Rattle.answers.specs.declared.Answer.the-variants.{Done, DelineationLost}
 use Rattle.station.specs.States.{isOperating}
 use Rattle.stretches.specs.declared.StretchPlace as found
 use Rattle.stretches.specs.Stretch.{stretchOf}

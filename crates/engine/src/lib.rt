@@ -7,7 +7,7 @@ mod stretching;
 // The station's state, by value; `Station::power_on` gives O1 with nothing held or carried, and has no refusal.
 pub use station::Station;
 // What every call but the stretch and the writers comes back with: its answer, and the state that it leaves.
-pub use station::answers::Outcome;
+pub use station::Outcome;
 // A frame has arrived: the plan of upstream bursts, the replies, the SDUs and the next state. Answers 0 to 6.
 pub use frame::Counts;
 pub use frame::FrameOutcome;

@@ -5,10 +5,10 @@ ghost use Prim.Native.Nat.{_≤_};
 ghost use lib.ListN.{length};
 ghost use Rattle.downstream.specs.Partitions.{headerEnd};
 ghost use Rattle.engine.specs.Stretch.{empty, answerIf, placeIn, PlaceIs, StretchIs};
+use answers::Answer;
 use downstream::Opening;
 use downstream::partitions;
 use station::Station;
-use station::answers::Answer;
 use stretches::Extent;
 use xgtc::hlend::Hlend;
 

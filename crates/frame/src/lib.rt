@@ -15,6 +15,7 @@ ghost use Rattle.frame.specs.Frame.{leaving, noCounts, without, answerTo
 
 pub mod given;
 
+use answers::Answer;
 use bwmap::Plan;
 use downstream::Opening;
 use downstream::partitions;
@@ -22,7 +23,6 @@ use entries::Own;
 use payload::Delineation;
 use payload::Received;
 use station::Station;
-use station::answers::Answer;
 use xgtc::hlend::Hlend;
 
 // How much a frame call has written: records of four numbers in the plan, messages of 48 octets in the replies, bytes in the

@@ -1,7 +1,6 @@
-// What a call answers, and the number of each answer in the paper's table.
+// What a call answers: the paper's table "What comes back", and the number of each answer in it.
 ghost use mathlib.Core.Path.{_≡_};
-ghost use Rattle.station.specs.Answers.{answerNumber};
-use super::Station;
+ghost use Rattle.answers.specs.Answers.{answerNumber};
 
 pub enum Answer {
     Done,
@@ -37,10 +36,4 @@ impl Answer {
             Answer::NotWritten => 11,
         }
     }
-}
-
-// What a call answers and the station that it leaves.
-pub struct Outcome {
-    pub answer: Answer,
-    pub station: Station,
 }
