@@ -4,7 +4,7 @@
 use Prim.Native.Nat.{ℕ, zero, suc, _+_, _-_, _*_, _/_, _%_, _^_, _<_, _≤_}
 use native.Mathlib.Omega.{arith}
 use mathlib.Core.Path.{_≡_, _∙_, refl, ap, subst}
-use mathlib.Core.Bool.{Bool, true, false, not, cond, _&&_}
+use mathlib.Core.Bool.{Bool, true, false, not, cond, _&&_, _||_}
 use mathlib.Core.List.{List, [], _∷_, _++_}
 use lib.Dec.{eqb, leb, ltb}
 use lib.ListN.{length, getD, take, drop, set, replicate}
@@ -28,7 +28,11 @@ use Rattle.ploam.specs.declared.Received.{Received}
 use Rattle.ploam.specs.declared.Received.the-variants.{Whole, Short}
 use Rattle.ploam.specs.Layout as layout
 use Rattle.ploam.specs.Layout.{messageOctets, messageAt, number16, number32, typeOf, octet}
-use Rattle.ploam.specs.Reading.{adjustmentOf, switchOf, changeOf, onuIn, allocIn, serialFrom, contentAs, contentOf, messageOf, received}
+use Rattle.ploam.specs.declared.Completion.the-variants.{Ok, ProcessingError, ParameterError, UnknownMessageType}
+use Rattle.ids.specs.Ids.{assignableOnu, assignableAlloc}
+use Rattle.ids.specs.Places.{isHeld}
+use Rattle.link.specs.declared.Response.the-variants.{Registration}
+use Rattle.ploam.specs.Reading.{serialAt, adjustmentOf, switchOf, changeOf, onuIn, allocIn, serialFrom, contentAs, contentOf, messageOf, received}
 use Rattle.integrity.specs.Integrity.{installedKey, genuine}
 use Rattle.link.specs.declared.Link.{Link}
 use Rattle.link.specs.declared.Allocs.{Allocs}
@@ -52,10 +56,8 @@ use Rattle.effects.specs.declared.Debt.the-variants.{Free, Owes}
 use Rattle.effects.specs.declared.Effect.{Effect}
 use Rattle.effects.specs.Effects.{ignored, does, owes, answers}
 use Rattle.effects.specs.Changes.{identify, range, setDelay, applyChange, applyDebt, applied}
-use Rattle.decisions.specs.Ranging.{mostDelay, moved, answered, unanswered, rangingTime}
-use Rattle.decisions.specs.declared.Target.{Target}
-use Rattle.decisions.specs.declared.Target.the-variants.{To, Outside}
-use Rattle.decisions.specs.Decisions.{assignOnuId, allocChange, assignAllocId, requestRegistration, deactivate, switchOff, switchOn, switched, disable, unknownType, byContent, isOurs, isBroadcast, effectOf, room, fitting}
+use Rattle.decisions.specs.Ranging.{mostDelay, absolute, moved, answered, unanswered, rangingTime}
+use Rattle.decisions.specs.Decisions.{sameSerial, assignOnuId, allocChange, assignAllocId, requestRegistration, deactivate, switchOff, switchOn, switched, disable, unknownType, byContent, isOurs, isBroadcast, effectOf, room, fitting}
 use Rattle.decisions.specs.Acts.{act}
 use Rattle.messages.specs.Receiving.{acting, receive, messagesFrom, messagesIn, receiveAll}
 use Rattle.replies.specs.Replying.{afterIn, afterReply}
@@ -122,11 +124,11 @@ octets-drop (suc n) (x ∷ l) o = octets-drop n l (λ i. o (suc i))
 octets-take : (n : ℕ) (l : List ℕ) → Octets l → Octets (take n l)
 octets-take zero l o = λ i. omega arith
 octets-take (suc n) [] o = o
-octets-take (suc n) (x ∷ l) o = go
+octets-take (suc n) (x ∷ l) o = go (octets-take n l (λ j. o (suc j)))
   where
-    go : (i : ℕ) → getD (x ∷ take n l) i 0 < 256
-    go zero = o 0
-    go (suc i) = octets-take n l (λ j. o (suc j)) i
+    go : Octets (take n l) → (i : ℕ) → getD (x ∷ take n l) i 0 < 256
+    go rest zero = o 0
+    go rest (suc i) = rest i
 
 -- ---- what a message asks for is as wide as its octets
 
@@ -152,14 +154,22 @@ content-wide m o =
     let type = typeOf m in
     let amount : number32 m 6 < 256 ^ delayWidth = omega (arith, o 5, o 6, o 7, o 8) in
     let id : number16 m 5 % 16384 < 256 ^ idWidth = omega arith in
-    either (eqb type layout.profile) _ _ tt
-    (either (eqb type layout.assignOnuId) _ _ tt
-    (either (eqb type layout.rangingTime) _ _ amount
-    (either (eqb type layout.deactivateOnuId) _ _ tt
-    (either (eqb type layout.disableSerialNumber) _ _ tt
-    (either (eqb type layout.requestRegistration) _ _ tt
-    (either (eqb type layout.assignAllocId) _ _ id
-    (either (eqb type layout.keyControl) _ _ tt (either (eqb type layout.sleepAllow) _ (Unknown type) tt tt))))))))
+    let c8 = cond (eqb type layout.sleepAllow) SleepAllow (Unknown type) in
+    let c7 = cond (eqb type layout.keyControl) KeyControl c8 in
+    let c6 = cond (eqb type layout.assignAllocId) (AssignAllocId (allocIn m) (changeOf (octet m 7))) c7 in
+    let c5 = cond (eqb type layout.requestRegistration) RequestRegistration c6 in
+    let c4 = cond (eqb type layout.disableSerialNumber) (DisableSerialNumber (switchOf (octet m 5)) (serialFrom m 6)) c5 in
+    let c3 = cond (eqb type layout.deactivateOnuId) DeactivateOnuId c4 in
+    let c2 = cond (eqb type layout.rangingTime) (RangingTime (adjustmentOf (octet m 5)) (number32 m 6)) c3 in
+    let c1 = cond (eqb type layout.assignOnuId) (AssignOnuId (onuIn m) (serialFrom m 7)) c2 in
+    either (eqb type layout.profile) Profile c1 tt
+    (either (eqb type layout.assignOnuId) (AssignOnuId (onuIn m) (serialFrom m 7)) c2 tt
+    (either (eqb type layout.rangingTime) (RangingTime (adjustmentOf (octet m 5)) (number32 m 6)) c3 amount
+    (either (eqb type layout.deactivateOnuId) DeactivateOnuId c4 tt
+    (either (eqb type layout.disableSerialNumber) (DisableSerialNumber (switchOf (octet m 5)) (serialFrom m 6)) c5 tt
+    (either (eqb type layout.requestRegistration) RequestRegistration c6 tt
+    (either (eqb type layout.assignAllocId) (AssignAllocId (allocIn m) (changeOf (octet m 7))) c7 id
+    (either (eqb type layout.keyControl) KeyControl c8 tt (either (eqb type layout.sleepAllow) SleepAllow (Unknown type) tt tt))))))))
 
 -- ---- and so is what it does
 
@@ -176,65 +186,84 @@ choose : (b : Bool) (x y : Effect) → Change-wide (x .change) → Change-wide (
 choose true x y p q = p
 choose false x y p q = q
 
-abbrev Target-wide : Target → Type 0
-Target-wide (To delay) = delay < 256 ^ delayWidth
-Target-wide Outside = Unit {0}
+module _ (delay amount : ℕ) (p : delay < 256 ^ delayWidth) (q : amount < 256 ^ delayWidth) where
+  answered-wide : (way : Adjustment) (seq : ℕ) → Change-wide (answered (moved way delay amount) seq .change)
+  answered-wide Absolute seq = q
+  answered-wide Add seq = go (leb (delay + amount) mostDelay) refl
+    where
+      go : (b : Bool) → leb (delay + amount) mostDelay ≡ b → Change-wide (answered (moved Add delay amount) seq .change)
+      go true e = rw e (omega (arith, leb-true (delay + amount) mostDelay e))
+      go false e = rw e tt
+  answered-wide Subtract seq = go (leb amount delay) refl
+    where
+      go : (b : Bool) → leb amount delay ≡ b → Change-wide (answered (moved Subtract delay amount) seq .change)
+      go true e = rw e (omega (arith, p))
+      go false e = rw e tt
 
-moved-wide : (way : Adjustment) (delay amount : ℕ) → delay < 256 ^ delayWidth → amount < 256 ^ delayWidth → Target-wide (moved way delay amount)
-moved-wide Absolute delay amount p q = q
-moved-wide Add delay amount p q = go (leb (delay + amount) mostDelay) refl
-  where
-    go : (b : Bool) → leb (delay + amount) mostDelay ≡ b → Target-wide (cond b (To (delay + amount)) Outside)
-    go true e = omega (arith, leb-true (delay + amount) mostDelay e)
-    go false e = tt
-moved-wide Subtract delay amount p q = go (leb amount delay)
-  where
-    go : (b : Bool) → Target-wide (cond b (To (delay - amount)) Outside)
-    go true = omega (arith, p)
-    go false = tt
-
-answered-wide : (t : Target) (seq : ℕ) → Target-wide t → Change-wide (answered t seq .change)
-answered-wide (To delay) seq p = p
-answered-wide Outside seq p = tt
-
-unanswered-wide : (t : Target) → Target-wide t → Change-wide (unanswered t .change)
-unanswered-wide (To delay) p = p
-unanswered-wide Outside p = tt
+  unanswered-wide : (way : Adjustment) → Change-wide (unanswered (moved way delay amount) .change)
+  unanswered-wide Absolute = q
+  unanswered-wide Add = go (leb (delay + amount) mostDelay) refl
+    where
+      go : (b : Bool) → leb (delay + amount) mostDelay ≡ b → Change-wide (unanswered (moved Add delay amount) .change)
+      go true e = rw e (omega (arith, leb-true (delay + amount) mostDelay e))
+      go false e = rw e tt
+  unanswered-wide Subtract = go (leb amount delay) refl
+    where
+      go : (b : Bool) → leb amount delay ≡ b → Change-wide (unanswered (moved Subtract delay amount) .change)
+      go true e = rw e (omega (arith, p))
+      go false e = rw e tt
 
 ranging-wide : (state : ℕ) (broadcast : Bool) (delay seq : ℕ) (way : Adjustment) (amount : ℕ) → delay < 256 ^ delayWidth → amount < 256 ^ delayWidth
     → Change-wide (rangingTime state broadcast delay seq way amount .change)
 unfolding rangingTime
 ranging-wide state broadcast delay seq way amount p q =
-    let t = moved way delay amount in
-    let w = moved-wide way delay amount p q in
-    choose broadcast _ _ (choose (_ && _) (unanswered t) ignored (unanswered-wide t w) tt)
-    (choose (eqb state o5) (answered t seq) _ (answered-wide t seq w) (choose (_ && _) (answers (Range amount) _ seq) ignored q tt))
+    let target = moved way delay amount in
+    let first = answers (Range amount) Ok seq in
+    let in-o4 = cond (eqb state o4 && absolute way) first ignored in
+    choose broadcast (cond (eqb state o5 && not (absolute way)) (unanswered target) ignored) (cond (eqb state o5) (answered target seq) in-o4)
+    (choose (eqb state o5 && not (absolute way)) (unanswered target) ignored (unanswered-wide delay amount p q way) tt)
+    (choose (eqb state o5) (answered target seq) in-o4 (answered-wide delay amount p q way seq) (choose (eqb state o4 && absolute way) first ignored q tt))
 
 alloc-wide : (allocs : Allocs) (seq : ℕ) (id : AllocId) (change : AllocChange) → IsId id → Change-wide (allocChange allocs seq id change .change)
-alloc-wide allocs seq id Assign p = choose _ _ _ tt (choose _ _ _ tt p)
-alloc-wide allocs seq id Deallocate p = choose _ _ _ tt tt
+alloc-wide allocs seq id Assign p =
+    choose (isHeld (allocPlace allocs id)) (answers Keep Ok seq) (cond (leb addedAllocs (allocs .count)) (answers Keep ProcessingError seq) (answers (AddAlloc id) Ok seq)) tt
+    (choose (leb addedAllocs (allocs .count)) (answers Keep ProcessingError seq) (answers (AddAlloc id) Ok seq) tt p)
+alloc-wide allocs seq id Deallocate p = choose (isHeld (allocPlace allocs id)) (answers (RemoveAlloc id) Ok seq) (answers Keep ParameterError seq) tt tt
 alloc-wide allocs seq id OtherChange p = tt
 
+off-wide : (a : Activation) → Change-wide (switchOff a .change)
+unfolding switchOff
+off-wide a = choose (holdsIdentity a || eqb (stateNumber a) o23) (does (Enter EmergencyStop)) ignored tt tt
+
+on-wide : (a : Activation) → Change-wide (switchOn a .change)
+unfolding switchOn
+on-wide a = choose (eqb (stateNumber a) o7) (does (Enter Initial)) ignored tt tt
+
 switched-wide : (a : Activation) (own : Bool) (switch : Switch) → Change-wide (switched a own switch .change)
-unfolding switchOff switchOn
-switched-wide a own DisableOwn = choose own _ _ (choose _ _ _ tt tt) tt
-switched-wide a own EnableOwn = choose own _ _ (choose _ _ _ tt tt) tt
-switched-wide a own DisableAll = choose _ _ _ tt tt
-switched-wide a own EnableAll = choose _ _ _ tt tt
+switched-wide a own DisableOwn = choose own (switchOff a) ignored (off-wide a) tt
+switched-wide a own EnableOwn = choose own (switchOn a) ignored (on-wide a) tt
+switched-wide a own DisableAll = off-wide a
+switched-wide a own EnableAll = on-wide a
 switched-wide a own OtherSwitch = tt
 
 effect-wide : (s : Station) (broadcast : Bool) (seq : ℕ) (c : Content) → s .link .delay < 256 ^ delayWidth → Content-wide c → Change-wide (byContent s broadcast seq c .change)
 unfolding assignOnuId assignAllocId requestRegistration deactivate disable unknownType
 effect-wide s broadcast seq Profile d p = tt
-effect-wide s broadcast seq (AssignOnuId onu serial) d p = choose _ _ _ tt tt
+effect-wide s broadcast seq (AssignOnuId onu serial) d p =
+    choose (broadcast && (eqb (stateNumber (s .activation)) o23 && (sameSerial (serialAt (s .serial) 0) serial && assignableOnu onu))) (does (Identify onu)) ignored tt tt
 effect-wide s broadcast seq (RangingTime way amount) d p = ranging-wide (stateNumber (s .activation)) broadcast (s .link .delay) seq way amount d p
-effect-wide s broadcast seq DeactivateOnuId d p = choose _ _ _ tt tt
-effect-wide s broadcast seq (DisableSerialNumber switch serial) d p = choose broadcast _ _ (switched-wide (s .activation) _ switch) tt
-effect-wide s broadcast seq RequestRegistration d p = choose _ _ _ tt tt
-effect-wide s broadcast seq (AssignAllocId id change) d p = choose _ _ _ (choose _ _ _ (alloc-wide (s .link .allocs) seq id change p) tt) tt
+effect-wide s broadcast seq DeactivateOnuId d p = choose (holdsIdentity (s .activation)) (does (Enter Initial)) ignored tt tt
+effect-wide s broadcast seq (DisableSerialNumber switch serial) d p =
+    let own = sameSerial (serialAt (s .serial) 0) serial in
+    choose broadcast (switched (s .activation) own switch) ignored (switched-wide (s .activation) own switch) tt
+effect-wide s broadcast seq RequestRegistration d p = choose (not broadcast && eqb (stateNumber (s .activation)) o5) (owes Keep Registration seq) ignored tt tt
+effect-wide s broadcast seq (AssignAllocId id change) d p =
+    let does-it = allocChange (s .link .allocs) seq id change in
+    choose (not broadcast && eqb (stateNumber (s .activation)) o5) (cond (assignableAlloc id) does-it (answers Keep ParameterError seq)) ignored
+    (choose (assignableAlloc id) does-it (answers Keep ParameterError seq) (alloc-wide (s .link .allocs) seq id change p) tt) tt
 effect-wide s broadcast seq KeyControl d p = tt
 effect-wide s broadcast seq SleepAllow d p = tt
-effect-wide s broadcast seq (Unknown type) d p = choose _ _ _ tt tt
+effect-wide s broadcast seq (Unknown type) d p = choose (not broadcast && eqb (stateNumber (s .activation)) o5) (answers Keep UnknownMessageType seq) ignored tt tt
 
 -- ---- what a link that differs in one thing keeps
 
