@@ -37,7 +37,7 @@ extern "C" {
 #endif
 
 /* Lengths of the lent buffers: what is shorter is answered 3, what is longer is not touched past its length. */
-#define LINGBARROW_STATE_BYTES (LINGBARROW_AT_RESERVED + 1) /* 208 */
+#define LINGBARROW_STATE_BYTES (LINGBARROW_AT_CARRIED + 2) /* 208 */
 #define LINGBARROW_SERIAL_BYTES 8
 #define LINGBARROW_REGISTRATION_BYTES 36
 #define LINGBARROW_KEY_BYTES 16
@@ -83,7 +83,9 @@ extern "C" {
 #define LINGBARROW_O6 6
 #define LINGBARROW_O7 7
 
-/* Answers. After 1, 2, 3 and 7 to 11 nothing is changed, except that the frame call and the stretch set their numbers to 0. */
+/* Answers, tested in the order of the numbers: of all that is wrong the lowest number is answered. Only a state that is too short is
+ * answered 3 before all else: there are no bytes to test. After 1, 2, 3 and 7 to 11 nothing is changed, except that the frame call and
+ * the stretch set their numbers to 0 where these have room. */
 #define LINGBARROW_DONE 0
 #define LINGBARROW_STATE_OUT_OF_RANGE 1 /* also: bytes that are no state's */
 #define LINGBARROW_FRAME_LENGTH 2
@@ -101,14 +103,19 @@ extern "C" {
  * that saving it takes. Save and restore it with the port memory of the same station and moment: unfinished SDUs stand there. A
  * state holds secrets, the Registration ID and the key: who may read or save a state may read them.
  *
- * At most so many are held, and a state has room for as many: */
+ * Its first byte is the version of this form. Bytes of another version, or of a library that had none, are no state's and answered 1:
+ * lingbarrow_in_range says so of a state that was saved, before anything is done with it. */
+#define LINGBARROW_STATE_VERSION 8
+
+/* At most so many are held, and a state has room for as many: */
 #define LINGBARROW_ADDED_ALLOCS 16 /* added Alloc-IDs */
 #define LINGBARROW_MOST_OWED 8     /* answers owed */
 #define LINGBARROW_ADDED_PORTS 16  /* added ports */
 #define LINGBARROW_SLOTS 17        /* slots of port memory: of the management port, and of each added port */
 
 /* Where each field stands: where the one before it does, plus that one's bytes. */
-#define LINGBARROW_AT_STATE 0                                                               /* 1: LINGBARROW_O1 to LINGBARROW_O7 */
+#define LINGBARROW_AT_VERSION 0                                                             /* 1: LINGBARROW_STATE_VERSION */
+#define LINGBARROW_AT_STATE (LINGBARROW_AT_VERSION + 1)                                     /* 1: LINGBARROW_O1 to LINGBARROW_O7 */
 #define LINGBARROW_AT_TIME (LINGBARROW_AT_STATE + 1)                                        /* 4: frame times left of TO1 in O4, of TO2 in O6 */
 #define LINGBARROW_AT_SERIAL (LINGBARROW_AT_TIME + 4)                                       /* 8 */
 #define LINGBARROW_AT_REGISTRATION (LINGBARROW_AT_SERIAL + LINGBARROW_SERIAL_BYTES)         /* 36: secret */
@@ -124,11 +131,11 @@ extern "C" {
 #define LINGBARROW_AT_PARTIALS (LINGBARROW_AT_PORT_IDS + 2 * LINGBARROW_ADDED_PORTS)        /* 2 each: bytes of the slot's unfinished SDU */
 #define LINGBARROW_AT_WAITING (LINGBARROW_AT_PARTIALS + 2 * LINGBARROW_SLOTS)               /* 1 each: 1 while the slot's port waits, else 0 */
 #define LINGBARROW_AT_CARRIED (LINGBARROW_AT_WAITING + LINGBARROW_SLOTS)                    /* 2: words that the last burst takes of the next frame */
-#define LINGBARROW_AT_RESERVED (LINGBARROW_AT_CARRIED + 2)                                  /* 1: 0 */
 
 /* Bytes of stack that a call takes at most, its arguments and return address included, as measured on this build by tests/stack,
  * which fails if a call takes more. What the caller's own frames, a signal handler or an interrupt need comes on top. */
 #define LINGBARROW_STACK_POWER_ON 624
+#define LINGBARROW_STACK_IN_RANGE 1216
 #define LINGBARROW_STACK_FRAME 3816
 #define LINGBARROW_STACK_LOST 1584
 #define LINGBARROW_STACK_ADD_PORT 1856
@@ -142,6 +149,10 @@ extern "C" {
 /* A station in O1 with nothing held. 0, or 3 and nothing is changed. The port memory may hold anything. */
 uint8_t lingbarrow_power_on(uint8_t *state, size_t state_length, const uint8_t *serial, size_t serial_length,
                             const uint8_t *registration, size_t registration_length);
+
+/* Whether these bytes are a state in range, as one that was saved and is to be restored must be: 0. 1 for bytes that are no state's of
+ * this version and for a state out of range, to which every other call on a state answers 1 too; 3 for fewer than LINGBARROW_STATE_BYTES. */
+uint8_t lingbarrow_in_range(const uint8_t *state, size_t state_length);
 
 /* Where SDU number k (from 0) of a frame's deliveries stands unfragmented in the frame: `place` gets offset and length, both 0
  * where it does not. 0 to 6; 3 is about `state` and `place`.

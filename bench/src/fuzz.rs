@@ -171,13 +171,31 @@ fn main() {
                     unsettle(&mut rng, &mut other);
                 }
                 ours[..STATE].copy_from_slice(&octets(&other));
-                if other.in_range() {
+                let another_version = rng.once_in(4);
+                if another_version {
+                    ours[0] = rng.pick(&[0, 1, 2, 4, 5, 6, 7, STATE_VERSION + 1, 255]);
+                }
+                if other.in_range() && !another_version {
                     // both go on from it
                     peer = other;
                 } else {
-                    // every call answers 1 and changes nothing
+                    // every call answers 1 and changes nothing, whatever else is wrong
+                    let before = ours;
                     let s = ours.as_mut_ptr();
-                    let (f, key, mut counts, mut place) = ([0u8; 4], [0u8; 16], COUNTS_BEFORE, [7usize; 2]);
+                    let (f, key, mut counts, mut place) = ([0u8; 6], [0u8; 16], COUNTS_BEFORE, [7usize; 2]);
+                    let unfit = unsafe {
+                        [
+                            lingbarrow_in_range(s, STATE),
+                            lingbarrow_give_key(s, STATE, key.as_ptr(), 15),
+                            lingbarrow_stretch(s, STATE, f.as_ptr(), 6, 0, place.as_mut_ptr(), 1),
+                            lingbarrow_frame(
+                                s, STATE, lent.memory.as_mut_ptr(), 0, f.as_ptr(), 6, 0, lent.plan.as_mut_ptr(), 0, lent.replies.as_mut_ptr(), 0,
+                                lent.deliveries.as_mut_ptr(), 0, counts.as_mut_ptr(), 2,
+                            ),
+                        ]
+                    };
+                    assert_eq!(unfit, [1; 4], "a state out of range, and more that is unfit");
+                    assert_eq!((counts, place), (COUNTS_BEFORE, [7; 2]));
                     let said = unsafe {
                         [
                             lingbarrow_lost(s, STATE),
@@ -198,27 +216,50 @@ fn main() {
                         assert!(s == other);
                         answer
                     };
-                    let by = [
-                        again(|s| s.lost()),
-                        again(|s| s.add_port(PortId(2000))),
-                        again(|s| s.remove_port(PortId(2000))),
-                        again(|s| s.give_key([0; 16])),
-                        stretch(&other, &f, 0).0.number(),
-                        1,
-                    ];
-                    assert_eq!(said, by, "a state out of range");
+                    let by = || {
+                        [
+                            again(|s| s.lost()),
+                            again(|s| s.add_port(PortId(2000))),
+                            again(|s| s.remove_port(PortId(2000))),
+                            again(|s| s.give_key([0; 16])),
+                            stretch(&other, &f[..4], 0).0.number(),
+                            1,
+                        ]
+                    };
+                    assert_eq!(said, if another_version { [1; 6] } else { by() }, "a state out of range");
                     assert_eq!((counts, place), ([0; 3], [0; 2]));
-                    assert_eq!(ours[..STATE], octets(&other), "a state out of range changed");
+                    assert_eq!(ours, before, "a state out of range changed");
                     assert!(lent == theirs, "a lent buffer changed");
-                    answers[1] += 6;
-                    done += 6;
+                    answers[1] += 10;
+                    done += 10;
                     ours[..STATE].copy_from_slice(&octets(&peer));
                 }
             }
             let state = ours.as_mut_ptr();
             // a lost time ends what O4 has come to, so that it is seldom
             let kind = if rng.once_in(40) { 1 } else { rng.pick(&[0usize, 0, 0, 0, 0, 0, 0, 2, 2, if fills { 2 } else { 3 }, 4, 5]) };
+            assert_eq!(unsafe { lingbarrow_in_range(state, STATE) }, 0, "a state in range");
+            // what comes back, or the key, has no room
+            let roomless = rng.once_in(25);
             let (a, b) = match kind {
+                0 | 5 if roomless => {
+                    let f = make_frame(&mut rng, &peer);
+                    let (mut counts, mut place) = (COUNTS_BEFORE, [7usize; 2]);
+                    let answer = if kind == 0 {
+                        unsafe {
+                            lingbarrow_frame(
+                                state, STATE, lent.memory.as_mut_ptr(), lent.memory.len(), f.as_ptr(), f.len(), 0, lent.plan.as_mut_ptr(),
+                                lent.plan.len(), lent.replies.as_mut_ptr(), lent.replies.len(), lent.deliveries.as_mut_ptr(),
+                                lent.deliveries.len(), counts.as_mut_ptr(), 2,
+                            )
+                        }
+                    } else {
+                        unsafe { lingbarrow_stretch(state, STATE, f.as_ptr(), f.len(), 0, place.as_mut_ptr(), 1) }
+                    };
+                    assert_eq!((counts, place), (COUNTS_BEFORE, [7; 2]), "what has no room");
+                    (answer, if (4..=FRAME_MAX).contains(&f.len()) && f.len() % 4 == 0 { 3 } else { 2 })
+                }
+                4 if roomless => (unsafe { lingbarrow_give_key(state, STATE, [0; 15].as_ptr(), 15) }, 3),
                 0 => {
                     let f = make_frame(&mut rng, &peer);
                     let delay = rng.pick(&[0, 1, 119_439, 119_440, u32::MAX]);

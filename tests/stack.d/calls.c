@@ -39,6 +39,12 @@ static void power_on(void)
     answer = lingbarrow_power_on(lent.state, lengths.state, serial, lengths.serial, registration, lengths.registration);
 }
 
+static void in_range(void)
+{
+    called_from = __builtin_frame_address(0);
+    answer = lingbarrow_in_range(lent.state, lengths.state);
+}
+
 static void arrive(void)
 {
     called_from = __builtin_frame_address(0);
@@ -107,6 +113,7 @@ static struct {
     char scenario[128];
 } calls[CALLS] = {
     [POWER_ON] = CALL(power_on, lingbarrow_power_on, LINGBARROW_STACK_POWER_ON),
+    [IN_RANGE] = CALL(in_range, lingbarrow_in_range, LINGBARROW_STACK_IN_RANGE),
     [FRAME] = CALL(arrive, lingbarrow_frame, LINGBARROW_STACK_FRAME),
     [LOST] = CALL(lose, lingbarrow_lost, LINGBARROW_STACK_LOST),
     [ADD_PORT] = CALL(add_port, lingbarrow_add_port, LINGBARROW_STACK_ADD_PORT),

@@ -420,7 +420,7 @@ static void set_onu_id(unsigned id)
 /* What all calls refuse that take a state. */
 static void states_refused(void)
 {
-    static const unsigned taking[] = {FRAME, LOST, ADD_PORT, REMOVE_PORT, GIVE_KEY, STRETCH};
+    static const unsigned taking[] = {IN_RANGE, FRAME, LOST, ADD_PORT, REMOVE_PORT, GIVE_KEY, STRETCH};
 
     back();
     begin_frame();
@@ -431,11 +431,16 @@ static void states_refused(void)
         back();
         lengths.state--;
         refused(taking[i], "a state that is too short", LINGBARROW_BUFFER_TOO_SHORT);
+        lent.state[LINGBARROW_AT_VERSION]++;
+        refused(taking[i], "a state of another version", LINGBARROW_STATE_OUT_OF_RANGE);
+        back();
         lent.state[LINGBARROW_AT_STATE] = 3;
         refused(taking[i], "octets that are no state's", LINGBARROW_STATE_OUT_OF_RANGE);
         back();
         set_onu_id(onu_id() == OWN ? EVERYONE : OWN);
         refused(taking[i], "a state out of range", LINGBARROW_STATE_OUT_OF_RANGE);
+        lengths.counts = lengths.place = lengths.key = 0;
+        refused(taking[i], "a state out of range, and no room", LINGBARROW_STATE_OUT_OF_RANGE);
     }
 }
 
@@ -462,6 +467,10 @@ static void frames_refused(void)
         frame_length = unfit[i];
         refused(FRAME, "a length that no frame has", LINGBARROW_FRAME_LENGTH);
         refused(STRETCH, "a length that no frame has", LINGBARROW_FRAME_LENGTH);
+        lengths.counts--;
+        refused(FRAME, "a length that no frame has, and counts that are too short", LINGBARROW_FRAME_LENGTH);
+        lengths.place--;
+        refused(STRETCH, "a length that no frame has, and a place that is too short", LINGBARROW_FRAME_LENGTH);
     }
 }
 
@@ -470,6 +479,7 @@ static void host_calls(void)
     bool takes_key = station_kept.state == O4 || station_kept.state == O5 || station_kept.state == O6;
 
     back();
+    refused(IN_RANGE, "a state in range", LINGBARROW_DONE);
     frame_is_lost("a lost frame time");
     back();
     for (given.port = PORT; given.port < PORT + PORTS; given.port++) {

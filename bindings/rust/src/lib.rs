@@ -60,7 +60,9 @@
 mod raw;
 
 /// Bytes of a state.
-pub const STATE_BYTES: usize = at::RESERVED + 1;
+pub const STATE_BYTES: usize = at::CARRIED + 2;
+/// The version of a state's form, its first byte: bytes of another version are no state's.
+pub const STATE_VERSION: u8 = 8;
 /// Bytes of port memory: 17 slots of 2,048.
 pub const MEMORY_BYTES: usize = 34_816;
 /// Bytes of a saved station: its state, then its port memory.
@@ -87,7 +89,8 @@ pub const SLOTS: usize = 17;
 pub mod at {
     use super::{ADDED_ALLOCS, ADDED_PORTS, MOST_OWED, SLOTS};
 
-    pub const STATE: usize = 0;
+    pub const VERSION: usize = 0;
+    pub const STATE: usize = VERSION + 1;
     pub const TIME: usize = STATE + 1;
     pub const SERIAL: usize = TIME + 4;
     pub const REGISTRATION: usize = SERIAL + 8;
@@ -103,7 +106,6 @@ pub mod at {
     pub const PARTIALS: usize = PORT_IDS + 2 * ADDED_PORTS;
     pub const WAITING: usize = PARTIALS + 2 * SLOTS;
     pub const CARRIED: usize = WAITING + SLOTS;
-    pub const RESERVED: usize = CARRIED + 2;
 }
 
 /// A PLOAM message has 48 bytes; where each of its fields stands.
@@ -123,6 +125,7 @@ pub mod message {
 /// caller's own frames need comes on top.
 pub mod stack {
     pub const POWER_ON: usize = 624;
+    pub const IN_RANGE: usize = 1_216;
     pub const FRAME: usize = 3_816;
     pub const LOST: usize = 1_584;
     pub const ADD_PORT: usize = 1_856;
@@ -256,6 +259,14 @@ impl Activation {
             Activation::EmergencyStop => 7,
         }
     }
+
+    /// The frame times left of TO1 in O4, of TO2 in O6; the other states have no timer.
+    pub const fn time_left(self) -> Option<u32> {
+        match self {
+            Activation::Ranging(left) | Activation::Intermittent(left) => Some(left),
+            _ => None,
+        }
+    }
 }
 
 /// The completion codes of an Acknowledgement (clause 11.3.4.4) that this engine sends.
@@ -336,19 +347,17 @@ impl Station {
         [&self.state[..], &self.memory].concat()
     }
 
-    /// A station that was saved. [`Error::StateOutOfRange`] for bytes that are none: of another length, or no state's in range.
+    /// A station that was saved. [`Error::StateOutOfRange`] for bytes that are none: of another length, of another version than
+    /// [`STATE_VERSION`], or no state's in range.
     pub fn restore(saved: &[u8]) -> Result<Station, Error> {
         if saved.len() != SAVED_BYTES {
             return Err(Error::StateOutOfRange);
         }
         let (state, memory) = saved.split_at(STATE_BYTES);
+        done(raw::in_range(state))?;
         let mut station = Station { state: [0; STATE_BYTES], memory: memory.into() };
         station.state.copy_from_slice(state);
-        // Port 0 is never held: all that is asked is whether this is a state, which is tested first.
-        match raw::remove_port(&mut station.state, 0) {
-            1 => Err(Error::StateOutOfRange),
-            _ => Ok(station),
-        }
+        Ok(station)
     }
 
     /// The state's bytes as [`at`] has them, to look at. They hold the Registration ID and the key; [`Station::save`] is what to keep.
@@ -369,6 +378,11 @@ impl Station {
 
     fn number(&self, at: usize) -> u16 {
         u16::from_be_bytes(self.octets(at))
+    }
+
+    /// The version of the state's form: [`STATE_VERSION`].
+    pub fn state_version(&self) -> u8 {
+        self.state[at::VERSION]
     }
 
     /// Where the station stands, and the frame times left to it there.

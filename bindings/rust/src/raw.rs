@@ -5,6 +5,7 @@
 #[link(name = "boundary", kind = "static")]
 extern "C" {
     fn lingbarrow_power_on(state: *mut u8, state_length: usize, serial: *const u8, serial_length: usize, registration: *const u8, registration_length: usize) -> u8;
+    fn lingbarrow_in_range(state: *const u8, state_length: usize) -> u8;
     fn lingbarrow_frame(
         state: *mut u8,
         state_length: usize,
@@ -34,6 +35,10 @@ extern "C" {
 
 pub fn power_on(state: &mut [u8], serial: &[u8], registration: &[u8]) -> u8 {
     unsafe { lingbarrow_power_on(state.as_mut_ptr(), state.len(), serial.as_ptr(), serial.len(), registration.as_ptr(), registration.len()) }
+}
+
+pub fn in_range(state: &[u8]) -> u8 {
+    unsafe { lingbarrow_in_range(state.as_ptr(), state.len()) }
 }
 
 #[allow(clippy::too_many_arguments)]

@@ -1,7 +1,7 @@
 //! The wrappers over whole runs: the bench run's sample, line for line, and what the types are for.
 use lingbarrow::{
     at, message, write_hlend, write_xgem_frame, Activation, AllocId, Arriving, Buffers, Completion, Error, OnuId, Owed, Port, PortId, Station, MEMORY_BYTES,
-    SAVED_BYTES,
+    SAVED_BYTES, STATE_VERSION,
 };
 
 const SERIAL: [u8; 8] = *b"LBRW\x00\x00\x00\x01";
@@ -92,7 +92,9 @@ fn what_a_station_holds() {
     assert_eq!(&station.memory()[..8], b"a first ");
     station.lost();
     assert_eq!(station.activation(), Activation::Intermittent(800));
+    assert_eq!((station.activation().time_left(), station.carried_words()), (Some(800), 0));
     assert_eq!(station.activation().number(), station.state_bytes()[at::STATE]);
+    assert_eq!((station.state_version(), station.state_bytes()[at::VERSION]), (STATE_VERSION, STATE_VERSION));
     assert_eq!(station.ports().next(), Some(port(5, 0, 0, true)));
 }
 
@@ -120,7 +122,9 @@ fn what_is_no_saved_station_is_refused() {
     assert!(Station::restore(&saved).is_ok());
     assert_eq!(Station::restore(&saved[1..]), Err(Error::StateOutOfRange));
     assert_eq!(Station::restore(&[&saved[..], &[0]].concat()), Err(Error::StateOutOfRange));
-    for (at, octet) in [(at::STATE, 3), (at::ALLOC_COUNT, 17), (at::KEY_HELD, 2), (at::OWED, 3), (at::RESERVED, 1)] {
+    // an older library's first octet was the state's number
+    let versions = [0, 1, 2, 4, 5, 6, 7, STATE_VERSION + 1].map(|version| (at::VERSION, version));
+    for (at, octet) in [(at::STATE, 3), (at::ALLOC_COUNT, 17), (at::KEY_HELD, 2), (at::OWED, 3)].into_iter().chain(versions) {
         let mut other = saved.clone();
         other[at] = octet;
         assert_eq!(Station::restore(&other), Err(Error::StateOutOfRange), "octet {at}");

@@ -4,11 +4,16 @@ ghost use mathlib.Core.List.{[], _∷_};
 ghost use Prim.Native.Nat.{_≤_};
 ghost use lib.ListN.{length};
 ghost use Rattle.xgem.specs.Writes.{put};
+ghost use Rattle.answers.specs.Answers.{answerNumber};
 ghost use Rattle.frame.specs.Given.{arriving, lending};
-ghost use Rattle.boundary.specs.Frames.{BuffersAre, PlaceIs, countNumbers, placeNumbers, counted, frameOn, placeOn};
+ghost use Rattle.layout.specs.Layout.{decoded};
+ghost use Rattle.boundary.specs.Frames.{BuffersAre, PlaceIs, countNumbers, placeNumbers, answerBy, withoutRoom, counted, frameOn, placeOn};
 use super::states;
+use downstream::Opening;
 use frame::Counts;
 use layout::Contents;
+
+const DONE: u8 = 0;
 
 const STATE_OUT_OF_RANGE: u8 = 1;
 
@@ -35,6 +40,33 @@ fn put_place(place: &mut [usize], at: usize, bytes: usize)
     place[1] = bytes;
 }
 
+fn answer_by(o: Opening) -> u8
+    ensures { λ r. ⌜ r ≡ answerNumber (answerBy o) ⌝ }
+{
+    match o {
+        Opening::Refused(answer) => answer.number(),
+        Opening::Unread(answer) => answer.number(),
+        Opening::Opened(_) => DONE,
+    }
+}
+
+// What comes back has no room: 1, 2 or 3, and nothing is changed. A function of its own, so that a call with room has none of it on its way.
+fn without_room(state: &[u8], frame: &[u8]) -> u8
+    ensures { λ r. ⌜ r ≡ withoutRoom (decoded (now (state .entry))) (now (frame .entry)) ⌝ }
+{
+    let read = layout::read_state(state);
+    let contents = read.contents;
+    let s = read.station;
+    match contents {
+        Contents::Held => {
+            let valid = engine::in_range(s);
+            answer_by(downstream::open(valid, frame, false))
+        }
+        Contents::Unreadable => STATE_OUT_OF_RANGE,
+        Contents::Short => BUFFER_TOO_SHORT,
+    }
+}
+
 // A frame has arrived. The counts are those of records in the plan, of replies, and of bytes in the deliveries.
 #[no_mangle]
 pub extern "C" fn lingbarrow_frame(
@@ -50,7 +82,7 @@ pub extern "C" fn lingbarrow_frame(
     ensures { λ r. ⌜ BuffersAre r (now (state .exit)) (now (counts .exit)) (lending (now (memory .exit)) (now (plan .exit)) (now (replies .exit)) (now (deliveries .exit))) (frameOn (now (state .entry)) (arriving (now (frame .entry)) «random_delay») (now (counts .entry)) (lending (now (memory .entry)) (now (plan .entry)) (now (replies .entry)) (now (deliveries .entry)))) ⌝ }
 {
     if counts.len() < COUNTS {
-        return BUFFER_TOO_SHORT;
+        return without_room(state, frame);
     }
     let read = layout::read_state(state);
     let contents = read.contents;
@@ -86,7 +118,7 @@ pub extern "C" fn lingbarrow_stretch(
     ensures { λ r. ⌜ PlaceIs r (now (place .exit)) (placeOn (now (state .entry)) (now (frame .entry)) k (now (place .entry))) ⌝ }
 {
     if place.len() < PLACE {
-        return BUFFER_TOO_SHORT;
+        return without_room(state, frame);
     }
     let read = layout::read_state(state);
     let contents = read.contents;

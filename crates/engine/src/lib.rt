@@ -8,6 +8,8 @@ mod stretching;
 pub use station::Station;
 // What every call but the stretch and the writers comes back with: its answer, and the state that it leaves.
 pub use station::Outcome;
+// Whether a state is in range: what every call asks first, and answers 1 where it is not.
+pub use validity::in_range;
 // A frame has arrived: the plan of upstream bursts, the replies, the SDUs and the next state. Answers 0 to 6.
 pub use frame::Counts;
 pub use frame::FrameOutcome;
