@@ -8,7 +8,6 @@ use lib.ListN.{length, take, drop, drop-of-length-le}
 use lib.Seq.{take-length}
 use Rattle.xgem.specs.Reads.{Found, fields, unreadable, short}
 use Rattle.xgem.specs.Writes as writes
-use Rattle.xgem.specs.Writes.{number}
 use Rattle.xgem.specs.declared.words.Written as framed
 use Rattle.station.specs.declared.Station.{Station}
 use Rattle.station.specs.declared.answers.Answer.the-variants.{Done}
@@ -26,7 +25,7 @@ use Rattle.layout.specs.declared.Contents.the-variants.{Held, Unreadable, Short
 use Rattle.layout.specs.Layout.{readOf, found, decoded, stored}
 use Rattle.boundary.specs.Calls.{StateLeft, by}
 use Rattle.boundary.specs.Frames.{BuffersLeft, PlaceLeft, counted, afterFrame, refusedFrame, frameBy, placed, placeBy}
-use Rattle.boundary.specs.Writers.{Target, written}
+use Rattle.boundary.specs.Writers.{Target, answered, written}
 
 module _ (b : List ℕ) (r : StateRead) (e : r ≡ readOf b) where
   as-read : decoded b ≡ found (r .contents) (r .station)
@@ -118,7 +117,7 @@ module _ (b f : List ℕ) (k : ℕ) (place : List ℕ) where
 
 -- ---- the writers
 
-pub write-as : (l : writes.WriteLeft) (w : framed.Written) (x : List ℕ) (n : ℕ) → _≡_ {A = writes.WriteLeft} (record { answer = w; target = x }) l → n ≡ number w → _≡_ {A = Target} (record { answer = n; target = x }) (written l)
+pub write-as : (l : writes.WriteLeft) (w : framed.Written) (x : List ℕ) (n : ℕ) → _≡_ {A = writes.WriteLeft} (record { answer = w; target = x }) l → n ≡ answerNumber (answered w) → _≡_ {A = Target} (record { answer = n; target = x }) (written l)
 write-as l w x n e en =
     let made : _≡_ {A = Target} (record { answer = n; target = x }) (written (record { answer = w; target = x })) = λ j. record { answer = en j; target = x } in
     made ∙ ap written e

@@ -12,12 +12,7 @@ use Rattle.xgem.specs.declared.frame.XgemHeader.{XgemHeader}
 use Rattle.xgem.specs.declared.words.Written.{Written}
 use Rattle.xgem.specs.declared.words.Written.the-variants.{Done, Refused}
 
--- document 01's number for each answer: 11 where a value is too wide for its field or the target too short
-abbrev pub number : Written → ℕ
-number Done = 0
-number Refused = 11
-
--- the answer, and what the target then holds
+-- the answer, document 01's 0 or 11, and what the target then holds
 pub record WriteLeft : Type 0 where
   pub answer : Written
   pub target : List ℕ
