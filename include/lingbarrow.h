@@ -192,13 +192,14 @@ uint8_t lingbarrow_remove_port(uint8_t *state, size_t state_length, uint16_t por
 /* The PLOAM integrity key: taken in O4, O5 and O6. 0, 1, 3 or 10. */
 uint8_t lingbarrow_give_key(uint8_t *state, size_t state_length, const uint8_t *key, size_t key_length);
 
-/* The writers: 0, or 11 and nothing is changed. Marks are 0 or 1; other values are too wide. An XGEM frame is header, SDU and
- * padding, and its PLI is the SDU's length. Called by their names, the second and third take a lingbarrow_alloc_id and a
- * lingbarrow_port_id. */
-uint8_t lingbarrow_write_hlend(uint16_t bwmap, uint8_t ploam, uint8_t *target, size_t target_length);
-uint8_t lingbarrow_write_allocation(uint16_t alloc, uint8_t dbru, uint8_t ploamu, uint16_t start, uint16_t grant,
-                                    uint8_t fwi, uint8_t profile, uint8_t *target, size_t target_length);
-uint8_t lingbarrow_write_xgem_frame(uint8_t key, uint16_t port, uint32_t options, uint8_t last, const uint8_t *sdu,
+/* The writers: 0, or 11 and nothing is changed. Every number has 32 bits, so that one too wide for its field is answered 11 and not cut
+ * to it: 256 messages are too many, and not none. Bits of the fields: BWmap length 11, PLOAM count 8; Alloc-ID 14, StartTime 16,
+ * GrantSize 16, burst profile 2; key index 2, Port-ID 16, options 18; marks 1. An XGEM frame is header, SDU and padding; its PLI, 14 bits,
+ * is the SDU's length. Called by their names, the second and third take a lingbarrow_alloc_id and a lingbarrow_port_id. */
+uint8_t lingbarrow_write_hlend(uint32_t bwmap, uint32_t ploam, uint8_t *target, size_t target_length);
+uint8_t lingbarrow_write_allocation(uint32_t alloc, uint32_t dbru, uint32_t ploamu, uint32_t start, uint32_t grant,
+                                    uint32_t fwi, uint32_t profile, uint8_t *target, size_t target_length);
+uint8_t lingbarrow_write_xgem_frame(uint32_t key, uint32_t port, uint32_t options, uint32_t last, const uint8_t *sdu,
                                     size_t sdu_length, uint8_t *target, size_t target_length);
 
 /* The three identifiers. They often carry one and the same number, so that a wrong kind would work until it does not. */
@@ -296,14 +297,14 @@ static inline uint8_t lingbarrow_remove_port_id(uint8_t *state, size_t state_len
     return lingbarrow_remove_port(state, state_length, port.number);
 }
 
-static inline uint8_t lingbarrow_write_allocation_to(lingbarrow_alloc_id alloc, uint8_t dbru, uint8_t ploamu, uint16_t start,
-                                                     uint16_t grant, uint8_t fwi, uint8_t profile, uint8_t *target,
+static inline uint8_t lingbarrow_write_allocation_to(lingbarrow_alloc_id alloc, uint32_t dbru, uint32_t ploamu, uint32_t start,
+                                                     uint32_t grant, uint32_t fwi, uint32_t profile, uint8_t *target,
                                                      size_t target_length)
 {
     return lingbarrow_write_allocation(alloc.number, dbru, ploamu, start, grant, fwi, profile, target, target_length);
 }
 
-static inline uint8_t lingbarrow_write_xgem_frame_to(uint8_t key, lingbarrow_port_id port, uint32_t options, uint8_t last,
+static inline uint8_t lingbarrow_write_xgem_frame_to(uint32_t key, lingbarrow_port_id port, uint32_t options, uint32_t last,
                                                      const uint8_t *sdu, size_t sdu_length, uint8_t *target, size_t target_length)
 {
     return lingbarrow_write_xgem_frame(key, port.number, options, last, sdu, sdu_length, target, target_length);

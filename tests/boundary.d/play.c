@@ -52,6 +52,16 @@ static uint64_t number(void)
     return strtoull(word(), NULL, 10);
 }
 
+/* As wide as the writers take them. */
+static uint32_t value(void)
+{
+    uint64_t found = number();
+
+    if (found > UINT32_MAX)
+        fail("a number of more than 32 bits");
+    return (uint32_t)found;
+}
+
 static uint8_t digit(char c)
 {
     static const char digits[] = "0123456789abcdef";
@@ -170,19 +180,15 @@ static void writer(char which)
 
     memset(target, 0xee, length);
     if (which == 'H') {
-        uint64_t map = number(), messages = number();
-        answer = lingbarrow_write_hlend((uint16_t)map, (uint8_t)messages, target, length);
+        uint32_t map = value(), messages = value();
+        answer = lingbarrow_write_hlend(map, messages, target, length);
     } else if (which == 'A') {
-        lingbarrow_alloc_id alloc = lingbarrow_alloc_id_of((uint16_t)number());
-        uint64_t dbru = number(), ploamu = number(), start = number(), grant = number(), fwi = number(), profile = number();
-        answer = lingbarrow_write_allocation(alloc, (uint8_t)dbru, (uint8_t)ploamu, (uint16_t)start, (uint16_t)grant, (uint8_t)fwi,
-                                             (uint8_t)profile, target, length);
+        uint32_t alloc = value(), dbru = value(), ploamu = value(), start = value(), grant = value(), fwi = value(), profile = value();
+        answer = (lingbarrow_write_allocation)(alloc, dbru, ploamu, start, grant, fwi, profile, target, length);
     } else {
-        uint64_t key = number();
-        lingbarrow_port_id port = lingbarrow_port_id_of((uint16_t)number());
-        uint64_t options = number(), last = number();
+        uint32_t key = value(), port = value(), options = value(), last = value();
         const uint8_t *sdu = octets(&sdu_length);
-        answer = lingbarrow_write_xgem_frame((uint8_t)key, port, (uint32_t)options, (uint8_t)last, sdu, sdu_length, target, length);
+        answer = (lingbarrow_write_xgem_frame)(key, port, options, last, sdu, sdu_length, target, length);
     }
     SAY("%d ", answer);
     say_octets(target, length);

@@ -35,9 +35,7 @@ extern struct lengths lengths;
 extern struct given {
     uint16_t port;
     size_t number;
-    uint16_t bwmap, alloc, start, grant, xgem_port;
-    uint8_t ploam, dbru, ploamu, fwi, profile, key_index, last;
-    uint32_t options;
+    uint32_t bwmap, ploam, alloc, dbru, ploamu, start, grant, fwi, profile, key_index, xgem_port, options, last;
 } given;
 
 /* The station that scenarios begin with, in front of their names, and whether each scenario is to be printed. */

@@ -527,14 +527,21 @@ static void written(unsigned which, const char *what)
     claim(!unchanged(), "something is written");
 }
 
+/* The field holds the widest value that fits it. */
+static void too_wide(unsigned which, uint32_t *field, const char *what)
+{
+    ++*field;
+    refused(which, what, LINGBARROW_NOT_WRITTEN);
+    --*field;
+}
+
 static void hlends(void)
 {
     given.bwmap = 2047;
     given.ploam = 255;
     written(WRITE_HLEND, "written");
-    given.bwmap = 2048;
-    refused(WRITE_HLEND, "a length too wide", LINGBARROW_NOT_WRITTEN);
-    given.bwmap = 0;
+    too_wide(WRITE_HLEND, &given.bwmap, "a BWmap length too wide");
+    too_wide(WRITE_HLEND, &given.ploam, "a PLOAM count too wide");
     lengths.target = 3;
     refused(WRITE_HLEND, "a target that is too short", LINGBARROW_NOT_WRITTEN);
 }
@@ -546,21 +553,13 @@ static void allocations(void)
     given.start = given.grant = 65535;
     given.profile = 3;
     written(WRITE_ALLOCATION, "written");
-    given.alloc++;
-    refused(WRITE_ALLOCATION, "an Alloc-ID too wide", LINGBARROW_NOT_WRITTEN);
-    given.alloc--;
-    given.dbru++;
-    refused(WRITE_ALLOCATION, "DBRu too wide", LINGBARROW_NOT_WRITTEN);
-    given.dbru--;
-    given.ploamu++;
-    refused(WRITE_ALLOCATION, "PLOAMu too wide", LINGBARROW_NOT_WRITTEN);
-    given.ploamu--;
-    given.fwi++;
-    refused(WRITE_ALLOCATION, "FWI too wide", LINGBARROW_NOT_WRITTEN);
-    given.fwi--;
-    given.profile++;
-    refused(WRITE_ALLOCATION, "a profile too wide", LINGBARROW_NOT_WRITTEN);
-    given.profile--;
+    too_wide(WRITE_ALLOCATION, &given.alloc, "an Alloc-ID too wide");
+    too_wide(WRITE_ALLOCATION, &given.dbru, "DBRu too wide");
+    too_wide(WRITE_ALLOCATION, &given.ploamu, "PLOAMu too wide");
+    too_wide(WRITE_ALLOCATION, &given.start, "a StartTime too wide");
+    too_wide(WRITE_ALLOCATION, &given.grant, "a GrantSize too wide");
+    too_wide(WRITE_ALLOCATION, &given.fwi, "FWI too wide");
+    too_wide(WRITE_ALLOCATION, &given.profile, "a profile too wide");
     lengths.target = 7;
     refused(WRITE_ALLOCATION, "a target that is too short", LINGBARROW_NOT_WRITTEN);
 }
@@ -584,14 +583,10 @@ static void xgem_frames(void)
     }
     lengths.sdu = 16384;
     refused(WRITE_XGEM_FRAME, "an SDU too long", LINGBARROW_NOT_WRITTEN);
-    given.key_index++;
-    refused(WRITE_XGEM_FRAME, "a key index too wide", LINGBARROW_NOT_WRITTEN);
-    given.key_index--;
-    given.options++;
-    refused(WRITE_XGEM_FRAME, "options too wide", LINGBARROW_NOT_WRITTEN);
-    given.options--;
-    given.last++;
-    refused(WRITE_XGEM_FRAME, "LF too wide", LINGBARROW_NOT_WRITTEN);
+    too_wide(WRITE_XGEM_FRAME, &given.key_index, "a key index too wide");
+    too_wide(WRITE_XGEM_FRAME, &given.xgem_port, "a Port-ID too wide");
+    too_wide(WRITE_XGEM_FRAME, &given.options, "options too wide");
+    too_wide(WRITE_XGEM_FRAME, &given.last, "LF too wide");
 }
 
 int main(int argc, char **argv)

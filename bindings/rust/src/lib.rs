@@ -671,29 +671,75 @@ impl<'b> Iterator for Deliveries<'b> {
 
 impl std::iter::FusedIterator for Deliveries<'_> {}
 
-/// The fields of an allocation structure.
+/// The fields of an allocation structure. Numbers are as wide as a caller counts; [`write_allocation`] refuses those that their fields do
+/// not hold.
 #[derive(Clone, Copy, PartialEq, Eq, Debug)]
 pub struct Allocation {
+    /// 14 bits.
     pub alloc: AllocId,
     pub dbru: bool,
     pub ploamu: bool,
-    pub start: u16,
-    pub grant: u16,
+    /// StartTime, 16 bits; 65,535 continues a burst.
+    pub start: u32,
+    /// GrantSize in words of 4 bytes, 16 bits.
+    pub grant: u32,
     pub fwi: bool,
-    pub profile: u8,
+    /// 2 bits.
+    pub profile: u32,
 }
 
-/// HLend at the start of a target.
-pub fn write_hlend(bwmap: u16, ploam: u8, target: &mut [u8]) -> Result<(), Error> {
+/// HLend at the start of a target: how many allocation structures, at most 2,047, and how many messages, at most 255.
+/// [`Error::NotWritten`] where there are more, or the target has fewer than 4 bytes; it is then as it was.
+///
+/// ```
+/// use lingbarrow::{write_hlend, Error};
+///
+/// let mut target = [0xee; 4];
+/// assert_eq!(write_hlend(2048, 0, &mut target), Err(Error::NotWritten));
+/// assert_eq!(write_hlend(0, 256, &mut target), Err(Error::NotWritten));
+/// assert_eq!(target, [0xee; 4]);
+/// write_hlend(0, 1, &mut target)?;
+/// assert_eq!(target, [0x00, 0x00, 0x2a, 0x73]);
+/// # Ok::<(), lingbarrow::Error>(())
+/// ```
+pub fn write_hlend(bwmap: u32, ploam: u32, target: &mut [u8]) -> Result<(), Error> {
     done(raw::write_hlend(bwmap, ploam, target))
 }
 
-/// An allocation structure at the start of a target.
+/// An allocation structure at the start of a target. [`Error::NotWritten`] where a number is too wide for its field, or the target has
+/// fewer than 8 bytes; it is then as it was.
+///
+/// ```
+/// use lingbarrow::{write_allocation, AllocId, Allocation, Error};
+///
+/// let mut target = [0xee; 8];
+/// let fits = Allocation { alloc: AllocId(16_383), dbru: true, ploamu: false, start: 65_535, grant: 65_535, fwi: false, profile: 3 };
+/// let wide = [Allocation { alloc: AllocId(16_384), ..fits }, Allocation { start: 65_536, ..fits }, Allocation { profile: 4, ..fits }];
+/// for a in wide {
+///     assert_eq!(write_allocation(a, &mut target), Err(Error::NotWritten));
+/// }
+/// assert_eq!(target, [0xee; 8]);
+/// write_allocation(fits, &mut target)?;
+/// # Ok::<(), lingbarrow::Error>(())
+/// ```
 pub fn write_allocation(a: Allocation, target: &mut [u8]) -> Result<(), Error> {
     done(raw::write_allocation(a.alloc.0, a.dbru, a.ploamu, a.start, a.grant, a.fwi, a.profile, target))
 }
 
-/// An XGEM frame at the start of a target: header, SDU and padding.
-pub fn write_xgem_frame(key: u8, port: PortId, options: u32, last: bool, sdu: &[u8], target: &mut [u8]) -> Result<(), Error> {
+/// An XGEM frame at the start of a target: header, SDU and padding. [`Error::NotWritten`] where the key index is over 3, the options have
+/// more than 18 bits or the SDU more than 16,383 bytes, or the target is shorter than the frame; it is then as it was.
+///
+/// ```
+/// use lingbarrow::{write_xgem_frame, Error, PortId};
+///
+/// let mut target = [0xee; 16];
+/// assert_eq!(write_xgem_frame(4, PortId(2000), 0, true, b"SDU", &mut target), Err(Error::NotWritten));
+/// assert_eq!(write_xgem_frame(0, PortId(2000), 1 << 18, true, b"SDU", &mut target), Err(Error::NotWritten));
+/// assert_eq!(target, [0xee; 16]);
+/// write_xgem_frame(3, PortId(2000), 0, true, b"SDU", &mut target)?;
+/// assert_eq!(&target[8..], b"SDUUUUUU");
+/// # Ok::<(), lingbarrow::Error>(())
+/// ```
+pub fn write_xgem_frame(key: u32, port: PortId, options: u32, last: bool, sdu: &[u8], target: &mut [u8]) -> Result<(), Error> {
     done(raw::write_xgem_frame(key, port.0, options, last, sdu, target))
 }

@@ -2,6 +2,31 @@
 ghost use mathlib.Core.Path.{_≡_};
 ghost use Rattle.answers.specs.Answers.{answerNumber};
 
+// The numbers of the table.
+pub const DONE: u8 = 0;
+
+pub const STATE_OUT_OF_RANGE: u8 = 1;
+
+pub const FRAME_LENGTH_UNFIT: u8 = 2;
+
+pub const BUFFER_TOO_SHORT: u8 = 3;
+
+pub const HLEND_UNREADABLE: u8 = 4;
+
+pub const HEADER_TOO_LONG: u8 = 5;
+
+pub const DELINEATION_LOST: u8 = 6;
+
+pub const PORT_OUT_OF_RANGE: u8 = 7;
+
+pub const PORT_HELD_OR_NOT_HELD: u8 = 8;
+
+pub const SLOTS_TAKEN: u8 = 9;
+
+pub const KEY_REFUSED: u8 = 10;
+
+pub const NOT_WRITTEN: u8 = 11;
+
 pub enum Answer {
     Done,
     StateOutOfRange,
@@ -22,18 +47,18 @@ impl Answer {
         ensures { λ r. ⌜ r ≡ answerNumber self ⌝ }
     {
         match self {
-            Answer::Done => 0,
-            Answer::StateOutOfRange => 1,
-            Answer::FrameLengthUnfit => 2,
-            Answer::BufferTooShort => 3,
-            Answer::HlendUnreadable => 4,
-            Answer::HeaderTooLong => 5,
-            Answer::DelineationLost => 6,
-            Answer::PortOutOfRange => 7,
-            Answer::PortHeldOrNotHeld => 8,
-            Answer::SlotsTaken => 9,
-            Answer::KeyRefused => 10,
-            Answer::NotWritten => 11,
+            Answer::Done => DONE,
+            Answer::StateOutOfRange => STATE_OUT_OF_RANGE,
+            Answer::FrameLengthUnfit => FRAME_LENGTH_UNFIT,
+            Answer::BufferTooShort => BUFFER_TOO_SHORT,
+            Answer::HlendUnreadable => HLEND_UNREADABLE,
+            Answer::HeaderTooLong => HEADER_TOO_LONG,
+            Answer::DelineationLost => DELINEATION_LOST,
+            Answer::PortOutOfRange => PORT_OUT_OF_RANGE,
+            Answer::PortHeldOrNotHeld => PORT_HELD_OR_NOT_HELD,
+            Answer::SlotsTaken => SLOTS_TAKEN,
+            Answer::KeyRefused => KEY_REFUSED,
+            Answer::NotWritten => NOT_WRITTEN,
         }
     }
 }

@@ -10,8 +10,7 @@ use lib.Seq.{take-length}
 use borrow.Author.Tests.{le-leb, lt-leb}
 use Rattle.xgem.specs.Reads.{Found, fields, unreadable, short}
 use Rattle.xgem.specs.Writes as writes
-use Rattle.xgem.specs.Writes.{number}
-use Rattle.xgem.specs.declared.words.Written as framed
+use Rattle.answers.specs.declared.Answer.{Answer}
 use Rattle.station.specs.declared.Station.{Station}
 use Rattle.answers.specs.declared.Answer.the-variants.{Done}
 use Rattle.answers.specs.Answers.{answerNumber}
@@ -173,7 +172,7 @@ module _ (b f : List ℕ) (k : ℕ) (place : List ℕ) where
 
 -- ---- the writers
 
-pub write-as : (l : writes.WriteLeft) (w : framed.Written) (x : List ℕ) (n : ℕ) → _≡_ {A = writes.WriteLeft} (record { answer = w; target = x }) l → n ≡ number w → _≡_ {A = Target} (record { answer = n; target = x }) (written l)
+pub write-as : (l : writes.WriteLeft) (w : Answer) (x : List ℕ) (n : ℕ) → _≡_ {A = writes.WriteLeft} (record { answer = w; target = x }) l → n ≡ answerNumber w → _≡_ {A = Target} (record { answer = n; target = x }) (written l)
 write-as l w x n e en =
     let made : _≡_ {A = Target} (record { answer = n; target = x }) (written (record { answer = w; target = x })) = λ j. record { answer = en j; target = x } in
     made ∙ ap written e

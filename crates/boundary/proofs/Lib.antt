@@ -1,4 +1,5 @@
 pub mod Laws
+pub mod Widths
 pub mod Determined
 pub mod OneForm
 pub mod Order

@@ -17,7 +17,7 @@ use Rattle.xgtc.specs.declared.hlend.Hlend.{Hlend}
 use Rattle.xgtc.specs.Reads.{readHlend}
 use Rattle.station.specs.declared.Station.{Station}
 use Rattle.answers.specs.declared.Answer.{Answer}
-use Rattle.answers.specs.declared.Answer.the-variants.{Done, StateOutOfRange, FrameLengthUnfit, BufferTooShort, HlendUnreadable, HeaderTooLong, DelineationLost, PortOutOfRange, PortHeldOrNotHeld, SlotsTaken, KeyRefused, NotWritten}
+use Rattle.answers.specs.declared.Answer.the-variants.{Done, StateOutOfRange, FrameLengthUnfit, BufferTooShort, HeaderTooLong, PortOutOfRange, PortHeldOrNotHeld, SlotsTaken, KeyRefused}
 use Rattle.station.specs.declared.Outcome.{Outcome}
 use Rattle.answers.specs.Answers.{answerNumber}
 use Rattle.station.specs.States.{holdsIdentity, isOperating}
@@ -115,22 +115,17 @@ key-one s key = go (leb keyOctets (length key))
     go true = given-one s (take keyOctets key)
     go false = asked-one false s
 
-row-one : (s : Station) (a : Arrival) (lent : Lent) (answer : Answer) (left : FrameLeft) → Row s a lent answer left → isOne (answerNumber answer) ≡ not (inRange s)
-row-one s a lent Done left r = rw (r .passed .state)
-row-one s a lent StateOutOfRange left (p, e) = rw p
-row-one s a lent FrameLengthUnfit left (p, q, e) = rw p
-row-one s a lent BufferTooShort left (p, q, r, e) = rw p
-row-one s a lent HlendUnreadable left (p, q, e) = rw (p .state)
-row-one s a lent HeaderTooLong left (t, e) = rw (t .passed .state)
-row-one s a lent DelineationLost left r = rw (r .passed .state)
-row-one s a lent PortOutOfRange left r = absurd r
-row-one s a lent PortHeldOrNotHeld left r = absurd r
-row-one s a lent SlotsTaken left r = absurd r
-row-one s a lent KeyRefused left r = absurd r
-row-one s a lent NotWritten left r = absurd r
+row-one : (s : Station) (a : Arrival) (lent : Lent) (n : ℕ) (left : FrameLeft) → Row s a lent left n → isOne n ≡ not (inRange s)
+row-one s a lent n left (Row.done r) = rw (r .passed .state)
+row-one s a lent n left (Row.state-out-of-range p e) = rw p
+row-one s a lent n left (Row.frame-length-unfit p q e) = rw p
+row-one s a lent n left (Row.buffer-too-short p q r e) = rw p
+row-one s a lent n left (Row.hlend-unreadable p q e) = rw (p .state)
+row-one s a lent n left (Row.header-too-long t e) = rw (t .passed .state)
+row-one s a lent n left (Row.delineation-lost r) = rw (r .passed .state)
 
 frame-one : (s : Station) (a : Arrival) (lent : Lent) → isOne (answerNumber (frameLeft s a lent .outcome .answer)) ≡ not (inRange s)
-frame-one s a lent = row-one s a lent (frameLeft s a lent .outcome .answer) (frameLeft s a lent) (table s a lent)
+frame-one s a lent = row-one s a lent (answerNumber (frameLeft s a lent .outcome .answer)) (frameLeft s a lent) (table s a lent)
 
 done-or-lost : (lost : Bool) → isOne (answerNumber (answerIf lost)) ≡ false
 done-or-lost true = refl

@@ -13,11 +13,11 @@ use downstream::Opening;
 use frame::Counts;
 use layout::Contents;
 
-const DONE: u8 = 0;
+const DONE: u8 = answers::DONE;
 
-const STATE_OUT_OF_RANGE: u8 = 1;
+const STATE_OUT_OF_RANGE: u8 = answers::STATE_OUT_OF_RANGE;
 
-const BUFFER_TOO_SHORT: u8 = 3;
+const BUFFER_TOO_SHORT: u8 = answers::BUFFER_TOO_SHORT;
 
 const COUNTS: usize = 3;
 

@@ -16,11 +16,11 @@ use station::Outcome;
 use station::limits::REGISTRATION_OCTETS;
 use station::limits::SERIAL_OCTETS;
 
-const DONE: u8 = 0;
+const DONE: u8 = answers::DONE;
 
-const STATE_OUT_OF_RANGE: u8 = 1;
+const STATE_OUT_OF_RANGE: u8 = answers::STATE_OUT_OF_RANGE;
 
-const BUFFER_TOO_SHORT: u8 = 3;
+const BUFFER_TOO_SHORT: u8 = answers::BUFFER_TOO_SHORT;
 
 fn serial_of(c: &[u8]) -> [u8; SERIAL_OCTETS]
     requires { ⌜ serialOctets ≤ length (now c) ⌝ }

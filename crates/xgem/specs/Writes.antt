@@ -12,7 +12,7 @@ use Rattle.xgem.specs.declared.frame.XgemHeader.{XgemHeader}
 use Rattle.answers.specs.declared.Answer.{Answer}
 use Rattle.answers.specs.declared.Answer.the-variants.{Done, NotWritten}
 
--- the answer, and what the target then holds
+-- the answer, 0 or 11, and what the target then holds
 pub record WriteLeft : Type 0 where
   pub answer : Answer
   pub target : List ℕ
