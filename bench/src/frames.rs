@@ -125,6 +125,21 @@ fn measure(name: &str, s: &Station, f: &[u8]) {
     line(name, || { black_box(theirs(s, f, &mut x)); }, || { black_box(ours(&octets, f, &mut y)); });
 }
 
+fn place(s: &[u8; STATE], f: &[u8], k: usize) -> (u8, [usize; 2]) {
+    let (f, mut place) = (black_box(f), [7; 2]);
+    let answer = unsafe { lingbarrow_stretch(black_box(s).as_ptr(), STATE, f.as_ptr(), f.len(), k, place.as_mut_ptr(), 2) };
+    (answer, place)
+}
+
+/// The stretch of one delivery.
+fn measure_stretch(name: &str, s: &Station, f: &[u8], k: usize) {
+    let octets = octets(s);
+    let (answer, part) = stretch(s, f, k);
+    let at = if part.is_empty() { 0 } else { part.as_ptr() as usize - f.as_ptr() as usize };
+    assert_eq!(place(&octets, f, k), (answer.number(), [at, part.len()]), "{name}");
+    line(name, || { black_box(stretch(black_box(s), black_box(f), k)); }, || { black_box(place(&octets, f, k)); });
+}
+
 fn sdus(size: usize) -> Frame {
     let mut f = Frame::new();
     for i in 0..(FRAME_MAX - 4) / (8 + layout::payload_bytes(size as u16)) {
@@ -178,7 +193,11 @@ fn main() {
     measure("2,047 heads of ours, all but one passed over", &s, &own.bytes());
 
     for size in [1500, 64, 9] {
-        measure(&format!("full frame of {size}-byte SDUs"), &s, &sdus(size).full());
+        let (f, count) = (sdus(size).full(), (FRAME_MAX - 4) / (8 + layout::payload_bytes(size as u16)));
+        measure(&format!("full frame of {size}-byte SDUs"), &s, &f);
+        measure_stretch("    its first stretch", &s, &f, 0);
+        measure_stretch("    its last stretch", &s, &f, count - 1);
+        measure_stretch("    the stretch of no such delivery", &s, &f, count);
     }
     let mut nine = sdus(9);
     damage(&mut rng, &mut nine.payload, 20);

@@ -4,7 +4,7 @@
 use mathlib.Core.Path.{_≡_, refl, sym, ap, _∙_}
 use mathlib.Core.Bool.{Bool, true, false, not, cond}
 use mathlib.Core.List.{List}
-use Prim.Native.Nat.{ℕ, _+_}
+use Prim.Native.Nat.{ℕ}
 use lib.Dec.{eqb, leb}
 use lib.ListN.{length, take}
 use Rattle.ids.specs.declared.PortId.{PortId}
@@ -23,16 +23,15 @@ use Rattle.answers.specs.Answers.{answerNumber}
 use Rattle.station.specs.States.{holdsIdentity, isOperating}
 use Rattle.validity.specs.Ranges.{inRange}
 use Rattle.host.specs.Host.{answerToAdd, answerToRemove, answerToKey, afterAdd, afterRemove, afterKey}
-use Rattle.stretches.specs.declared.StretchPlace as found
 use Rattle.stretches.specs.Stretch.{stretchOf}
 use Rattle.downstream.specs.declared.Opening.the-variants.{Refused, Unread, Opened}
 use Rattle.downstream.specs.Lengths.{lengthFits}
-use Rattle.downstream.specs.Partitions.{headerEnd, payloadOf}
+use Rattle.downstream.specs.Partitions.{headerEnd}
 use Rattle.downstream.specs.Opening.{byHlend, opening}
 use Rattle.frame.specs.Given.{Arrival, Lent}
 use Rattle.frame.specs.Frame.{FrameLeft, frameLeft}
 use Rattle.engine.specs.Lods.{lostLeft}
-use Rattle.engine.specs.Stretch.{empty, answerIf, inFrame, placeIn, placeBy as placed-by, stretchPlace}
+use Rattle.engine.specs.Stretch.{empty, answerIf, told, placeIn, placeBy as placed-by, stretchPlace}
 use Rattle.engine.specs.Answers.{Row}
 use Rattle.engine.proofs.Table.{table}
 use Rattle.layout.specs.Layout.{decoded}
@@ -131,19 +130,12 @@ done-or-lost : (lost : Bool) → isOne (answerNumber (answerIf lost)) ≡ false
 done-or-lost true = refl
 done-or-lost false = refl
 
-found-one : (begins : ℕ) (p : found.StretchPlace) → isOne (answerNumber (inFrame begins p .answer)) ≡ false
-found-one begins p = go (eqb (p .stretch .bytes) 0)
-  where
-    go : (b : Bool) → isOne (answerNumber (cond b (empty (answerIf (p .lost))) (record { answer = answerIf (p .lost); at = begins + p .stretch .at; bytes = p .stretch .bytes }) .answer)) ≡ false
-    go true = done-or-lost (p .lost)
-    go false = done-or-lost (p .lost)
-
 place-in-one : (s : Station) (h : Hlend) (f : List ℕ) (k : ℕ) → isOne (answerNumber (placeIn s h f k .answer)) ≡ false
 unfolding placeIn
 place-in-one s h f k = go (isOperating (s .activation))
   where
-    go : (b : Bool) → isOne (answerNumber (cond b (inFrame (headerEnd h) (stretchOf (managementPort (s .link .onu)) (s .ports) (payloadOf h f) k)) (empty Done) .answer)) ≡ false
-    go true = found-one (headerEnd h) (stretchOf (managementPort (s .link .onu)) (s .ports) (payloadOf h f) k)
+    go : (b : Bool) → isOne (answerNumber (cond b (told (stretchOf (managementPort (s .link .onu)) (s .ports) (headerEnd h) f k)) (empty Done) .answer)) ≡ false
+    go true = done-or-lost (stretchOf (managementPort (s .link .onu)) (s .ports) (headerEnd h) f k .lost)
     go false = refl
 
 place-one : (s : Station) (f : List ℕ) (k : ℕ) → isOne (answerNumber (stretchPlace s f k .answer)) ≡ not (inRange s)

@@ -32,14 +32,14 @@ use Rattle.station.specs.declared.Outcome.{Outcome}
 use Rattle.ids.specs.Places.{isHeld}
 use Rattle.host.specs.Host.{outcome, answerToAdd, answerToRemove, answerToKey, afterAdd, afterRemove, afterKey}
 use Rattle.payload.specs.Frames.{parse}
-use Rattle.stretches.specs.Stretch.{stretchOf}
+use Rattle.stretches.specs.Stretch.{lostIn, stretchOf}
 use Rattle.downstream.specs.declared.Opening.the-variants.{Refused, Unread, Opened}
 use Rattle.downstream.specs.Lengths.{lengthFits}
 use Rattle.downstream.specs.Opening.{byHlend, opening}
 use Rattle.downstream.specs.Partitions.{headerEnd, payloadOf}
 use Rattle.engine.specs.Lods.{lostLeft}
 use Rattle.engine.specs.declared.stretching.StretchPlace.{StretchPlace}
-use Rattle.engine.specs.Stretch.{empty, answerIf, inFrame, placeIn, placeBy, stretchPlace}
+use Rattle.engine.specs.Stretch.{empty, told, placeIn, placeBy, stretchPlace}
 use Rattle.engine.proofs.Table.{table, not-short}
 use Rattle.demands.specs.Engine.{lingbarrow}
 use Rattle.demands.specs.Demand1.{PoweredOn, LostRow, AddRow, RemoveRow, KeyRow, Placed, StretchRow, WriteRow, Writes, Demand1}
@@ -112,16 +112,12 @@ key-row s octets = go (inRange s) refl (holdsIdentity (s .activation)) refl
 
 -- ---- the stretch
 
-empty-answer : (b : Bool) (n at : ℕ) (answer : Answer) → cond {A = StretchPlace} b (empty answer) (record { answer = answer; at = at; bytes = n }) .answer ≡ answer
-empty-answer true n at answer = refl
-empty-answer false n at answer = refl
-
-place-answer : (s : Station) (h : Hlend) (f : List ℕ) (k : ℕ) → placeIn s h f k .answer ≡ cond (isOperating (s .activation) && parse 0 (payloadOf h f) .lost) DelineationLost Done
-unfolding placeIn stretchOf
+place-answer : (s : Station) (h : Hlend) (f : List ℕ) (k : ℕ) → placeIn s h f k .answer ≡ cond (isOperating (s .activation) && parse (headerEnd h) (payloadOf h f) .lost) DelineationLost Done
+unfolding placeIn stretchOf lostIn
 place-answer s h f k = go (isOperating (s .activation))
   where
-    go : (b : Bool) → cond {A = StretchPlace} b (inFrame (headerEnd h) (stretchOf (managementPort (s .link .onu)) (s .ports) (payloadOf h f) k)) (empty Done) .answer ≡ cond (b && parse 0 (payloadOf h f) .lost) DelineationLost Done
-    go true = empty-answer (eqb (stretchOf (managementPort (s .link .onu)) (s .ports) (payloadOf h f) k .stretch .bytes) 0) _ _ (answerIf (parse 0 (payloadOf h f) .lost))
+    go : (b : Bool) → cond {A = StretchPlace} b (told (stretchOf (managementPort (s .link .onu)) (s .ports) (headerEnd h) f k)) (empty Done) .answer ≡ cond (b && parse (headerEnd h) (payloadOf h f) .lost) DelineationLost Done
+    go true = refl
     go false = refl
 
 module _ (s : Station) (f : List ℕ) (k : ℕ) where
@@ -130,12 +126,12 @@ module _ (s : Station) (f : List ℕ) (k : ℕ) where
 
   placed-row : inRange s ≡ true → lengthFits (length f) ≡ true → (h : Hlend) → readHlend f ≡ fields h → headerEnd h ≤ length f → StretchRowed (placeIn s h f k)
   placed-row a b h e fits =
-      subst (λ (x : Answer). StretchRow s f k (placeIn s h f k) (answerNumber x)) (sym (place-answer s h f k)) (go (isOperating (s .activation) && parse 0 (payloadOf h f) .lost) refl)
+      subst (λ (x : Answer). StretchRow s f k (placeIn s h f k) (answerNumber x)) (sym (place-answer s h f k)) (go (isOperating (s .activation) && parse (headerEnd h) (payloadOf h f) .lost) refl)
     where
-      whole : (l : Bool) → (isOperating (s .activation) && parse 0 (payloadOf h f) .lost) ≡ l → Placed s f k l (placeIn s h f k)
+      whole : (l : Bool) → (isOperating (s .activation) && parse (headerEnd h) (payloadOf h f) .lost) ≡ l → Placed s f k l (placeIn s h f k)
       whole l q = record { state = a; frame = b; hlend = h; reads = e; fits = fits; delineation = q; place = refl }
 
-      go : (l : Bool) → (isOperating (s .activation) && parse 0 (payloadOf h f) .lost) ≡ l → StretchRow s f k (placeIn s h f k) (answerNumber (cond l DelineationLost Done))
+      go : (l : Bool) → (isOperating (s .activation) && parse (headerEnd h) (payloadOf h f) .lost) ≡ l → StretchRow s f k (placeIn s h f k) (answerNumber (cond l DelineationLost Done))
       go true q = StretchRow.delineation-lost (whole true q)
       go false q = StretchRow.done (whole false q)
 

@@ -103,7 +103,7 @@ pub record Placed (s : Station) (f : List ℕ) (k : ℕ) (lost : Bool) (p : Stre
   pub hlend : Hlend
   pub reads : readHlend f ≡ fields hlend
   pub fits : headerEnd hlend ≤ length f
-  pub delineation : (isOperating (s .activation) && parse 0 (payloadOf hlend f) .lost) ≡ lost
+  pub delineation : (isOperating (s .activation) && parse (headerEnd hlend) (payloadOf hlend f) .lost) ≡ lost
   pub place : p ≡ placeIn s hlend f k
 
 pub record NoPlace (s : Station) (f : List ℕ) (p : StretchPlace) : Type 0 where

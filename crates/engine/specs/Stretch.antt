@@ -1,11 +1,10 @@
 -- "An unfragmented SDU can also be had as its own stretch of the lent frame, padding cut off. That call takes the state, the
 -- frame and a delivery's number from 0; else, and after 1, 2, 4 or 5, the stretch is empty."
 -- Assumes nothing.
-use Prim.Native.Nat.{ℕ, _+_}
+use Prim.Native.Nat.{ℕ}
 use mathlib.Core.Path.{_≡_}
 use mathlib.Core.Bool.{Bool, true, cond}
 use mathlib.Core.List.{List}
-use lib.Dec.{eqb}
 use lib.ListN.{take, drop}
 use Rattle.ids.specs.Ids.{managementPort}
 use Rattle.xgtc.specs.declared.hlend.Hlend.{Hlend}
@@ -18,7 +17,7 @@ use Rattle.stretches.specs.Stretch.{stretchOf}
 use Rattle.engine.specs.declared.stretching.StretchPlace.{StretchPlace}
 use Rattle.downstream.specs.declared.Opening.{Opening}
 use Rattle.downstream.specs.declared.Opening.the-variants.{Refused, Unread, Opened}
-use Rattle.downstream.specs.Partitions.{headerEnd, payloadOf}
+use Rattle.downstream.specs.Partitions.{headerEnd}
 use Rattle.downstream.specs.Opening.{opening}
 
 abbrev pub empty : Answer → StretchPlace
@@ -28,17 +27,15 @@ empty answer = record { answer = answer; at = 0; bytes = 0 }
 abbrev pub answerIf : Bool → Answer
 answerIf lost = cond lost DelineationLost Done
 
--- a stretch of the payload, which begins so many octets into the frame; the empty one stands at 0
-abbrev pub inFrame : ℕ → found.StretchPlace → StretchPlace
-inFrame begins p =
-    cond (eqb (p .stretch .bytes) 0) (empty (answerIf (p .lost)))
-    (record { answer = answerIf (p .lost); at = begins + p .stretch .at; bytes = p .stretch .bytes })
+-- what was found, with its answer
+abbrev pub told : found.StretchPlace → StretchPlace
+told p = record { answer = answerIf (p .lost); at = p .stretch .at; bytes = p .stretch .bytes }
 
 -- "Payload, in O5 only"
 unfoldable pub placeIn : Station → Hlend → List ℕ → ℕ → StretchPlace
 placeIn s h f k =
     cond (isOperating (s .activation))
-    (inFrame (headerEnd h) (stretchOf (managementPort (s .link .onu)) (s .ports) (payloadOf h f) k))
+    (told (stretchOf (managementPort (s .link .onu)) (s .ports) (headerEnd h) f k))
     (empty Done)
 
 abbrev pub placeBy : Opening → Station → List ℕ → ℕ → StretchPlace

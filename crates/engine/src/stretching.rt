@@ -1,9 +1,6 @@
 // An unfragmented SDU as its own stretch of the caller's frame.
 ghost use mathlib.Core.Path.{_≡_};
 ghost use mathlib.Core.Bool.{true};
-ghost use Prim.Native.Nat.{_≤_};
-ghost use lib.ListN.{length};
-ghost use Rattle.downstream.specs.Partitions.{headerEnd};
 ghost use Rattle.engine.specs.Stretch.{empty, answerIf, placeIn, PlaceIs, StretchIs};
 use answers::Answer;
 use downstream::Opening;
@@ -39,7 +36,6 @@ fn answer_if(lost: bool) -> Answer
 }
 
 fn place_in(s: Station, h: Hlend, frame: &[u8], k: usize) -> StretchPlace
-    requires { ⌜ headerEnd h ≤ length (now frame) ⌝ }
     ensures { λ r. ⌜ r ≡ placeIn s h (now (frame .entry)) k ⌝ }
 {
     let arrived = s.activation;
@@ -50,15 +46,11 @@ fn place_in(s: Station, h: Hlend, frame: &[u8], k: usize) -> StretchPlace
     let link = s.link;
     let onu = link.onu;
     let ports = s.ports;
-    let p = stretches::stretch_place(ports, onu.management_port(), &frame[end..], k);
+    let p = stretches::stretch_place(ports, onu.management_port(), frame, end, k);
     let t = p.stretch;
-    let answer = answer_if(p.lost);
-    if t.bytes == 0 {
-        return empty(answer);
-    }
     StretchPlace {
-        answer: answer,
-        at: end + t.at,
+        answer: answer_if(p.lost),
+        at: t.at,
         bytes: t.bytes,
     }
 }

@@ -1,3 +1,5 @@
 pub mod Stretches
+pub mod Listing
+pub mod Few
 pub mod OwnStretch
 pub mod Determined
