@@ -7,12 +7,12 @@ ghost use Rattle.station.specs.Limits.{serialOctets, registrationOctets};
 ghost use Rattle.answers.specs.Answers.{answerNumber};
 ghost use Rattle.layout.specs.Layout.{stored};
 ghost use Rattle.boundary.specs.Calls.{StateIs, asked, inRangeOn, lostOn, addOn, removeOn, keyOn, powerOnIn};
+use answers::Answer;
 use ids::PortId;
 use layout::Contents;
 use link::KEY_OCTETS;
-use station::Station;
-use answers::Answer;
 use station::Outcome;
+use station::Station;
 use station::limits::REGISTRATION_OCTETS;
 use station::limits::SERIAL_OCTETS;
 
