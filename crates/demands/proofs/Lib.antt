@@ -9,6 +9,7 @@ pub mod MeetsDemand1
 pub mod MeetsDemand2
 pub mod MeetsDemand3
 pub mod Counting
+pub mod Stretched
 pub mod Forgotten
 pub mod Keeps
 pub mod RefutingRuns

@@ -112,7 +112,7 @@ key-row s octets = go (inRange s) refl (holdsIdentity (s .activation)) refl
 
 -- ---- the stretch
 
-place-answer : (s : Station) (h : Hlend) (f : List ℕ) (k : ℕ) → placeIn s h f k .answer ≡ cond (isOperating (s .activation) && parse (headerEnd h) (payloadOf h f) .lost) DelineationLost Done
+pub place-answer : (s : Station) (h : Hlend) (f : List ℕ) (k : ℕ) → placeIn s h f k .answer ≡ cond (isOperating (s .activation) && parse (headerEnd h) (payloadOf h f) .lost) DelineationLost Done
 unfolding placeIn stretchOf lostIn
 place-answer s h f k = go (isOperating (s .activation))
   where

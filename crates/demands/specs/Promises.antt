@@ -1,11 +1,14 @@
 -- What else the paper promises of an engine: nobody else's bytes matter, the counts are true, what is not written stays, and a
 -- run never leaves the ranges.
 -- Assumes nothing.
-use Prim.Native.Nat.{ℕ, _+_, _*_}
+use Prim.Native.Nat.{ℕ, zero, suc, _+_, _*_}
 use mathlib.Core.Path.{_≡_}
+use mathlib.Core.Logic.{_⊎_}
 use mathlib.Core.Bool.{true, false, cond}
 use mathlib.Core.List.{List, [], _∷_}
-use lib.ListN.{length, drop}
+use lib.Dec.{leb}
+use lib.ListN.{length, getD, take, drop}
+use Rattle.octets.specs.Octets.{value}
 use Rattle.ids.specs.Ids.{managementPort}
 use Rattle.xgtc.specs.declared.hlend.Hlend.{Hlend}
 use Rattle.xgem.specs.Reads.{fields}
@@ -23,6 +26,7 @@ use Rattle.frame.specs.Given.{Arrival, Lent, withOctets}
 use Rattle.frame.specs.Frame.{FrameLeft, noCounts}
 use Rattle.engine.specs.Alike.{AlikeFrames}
 use Rattle.engine.specs.Counts.{Received, receiving, xgemFrames}
+use Rattle.engine.specs.declared.stretching.StretchPlace.{StretchPlace}
 use Rattle.demands.specs.Engine.{Engine}
 use Rattle.demands.specs.Runs.{Call, Buffers, lend, isDone, runOf}
 use Rattle.demands.specs.Demand3.{sendings}
@@ -31,6 +35,37 @@ use Rattle.demands.specs.Demand3.{sendings}
 -- and the port memory is equal too
 abbrev pub Isolated : Engine → Type 0
 Isolated E = (s : Station) (a : Arrival) (g : List ℕ) (lent : Lent) → AlikeFrames s (a .octets) g → E .frame s a lent ≡ E .frame s (withOctets a g) lent
+
+-- and their stretches are equal
+abbrev pub StretchesIsolated : Engine → Type 0
+StretchesIsolated E = (s : Station) (f g : List ℕ) (k : ℕ) → AlikeFrames s f g → E .stretchPlace s f k ≡ E .stretchPlace s g k
+
+-- ---- the stretch
+
+-- the SDUs that stand in deliveries, as a caller reads them: "Port-ID (2 bytes), length (2), bytes", with a count that is large enough
+abbrev pub lengthIn : List ℕ → ℕ
+lengthIn d = value (take 2 (drop 2 d))
+
+abbrev pub sdusIn : ℕ → List ℕ → List (List ℕ)
+sdusIn zero d = []
+sdusIn (suc n) d = cond (leb 4 (length d)) (take (lengthIn d) (drop 4 d) ∷ sdusIn n (drop (4 + lengthIn d) d)) []
+
+abbrev pub delivered : FrameLeft → List (List ℕ)
+delivered left = sdusIn (left .counts .bytes) (take (left .counts .bytes) (left .lent .deliveries))
+
+-- "An unfragmented SDU can also be had as its own stretch of the lent frame": the answer is the frame call's, and where it is not
+-- empty it is the delivery of that number that the frame call leaves
+pub record Stretched (f : List ℕ) (k : ℕ) (p : StretchPlace) (left : FrameLeft) : Type 0 where
+  pub answer : answerNumber (p .answer) ≡ answerNumber (left .outcome .answer)
+  pub is : (p .bytes ≡ 0) ⊎ (take (p .bytes) (drop (p .at) f) ≡ getD (delivered left) k [])
+
+-- at every frame of every run, wherever the frame call has its buffers
+abbrev pub TrueStretches : Engine → Type 0
+TrueStretches E =
+    (serial registration memory : List ℕ) (calls : List Call) (a : Arrival) (b : Buffers) (k : ℕ)
+    → let st = runOf E serial registration memory calls in
+    let left = E .frame (st .station) a (lend st b) in
+    (answerNumber (left .outcome .answer) ≡ 3 → ⊥) → Stretched (a .octets) k (E .stretchPlace (st .station) (a .octets) k) left
 
 -- ---- "invented counts of records, replies or bytes (each equals what was written)"
 

@@ -41,7 +41,7 @@ answer-lost : (lost : Bool) → answerTo (delineationOf lost) ≡ cond lost Deli
 answer-lost true = refl
 answer-lost false = refl
 
-done-answer : (s : Station) (h : Hlend) (a : Arrival) (lent : Lent) → handled s h a lent .outcome .answer ≡ cond (lostIn s h a) DelineationLost Done
+pub done-answer : (s : Station) (h : Hlend) (a : Arrival) (lent : Lent) → handled s h a lent .outcome .answer ≡ cond (lostIn s h a) DelineationLost Done
 unfolding handled done payloadIn walkOf leftBy lostIn
 done-answer s h a lent = go (isOperating (s .activation))
   where

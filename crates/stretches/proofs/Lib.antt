@@ -3,3 +3,4 @@ pub mod Listing
 pub mod Few
 pub mod OwnStretch
 pub mod Determined
+pub mod Isolation
