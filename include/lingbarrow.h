@@ -134,14 +134,14 @@ extern "C" {
 
 /* Bytes of stack that a call takes at most, its arguments and return address included, as measured on this build by tests/stack,
  * which fails if a call takes more. What the caller's own frames, a signal handler or an interrupt need comes on top. */
-#define LINGBARROW_STACK_POWER_ON 624
+#define LINGBARROW_STACK_POWER_ON 616
 #define LINGBARROW_STACK_IN_RANGE 784
-#define LINGBARROW_STACK_FRAME 3832
+#define LINGBARROW_STACK_FRAME 3800
 #define LINGBARROW_STACK_LOST 1584
 #define LINGBARROW_STACK_ADD_PORT 1856
 #define LINGBARROW_STACK_REMOVE_PORT 1856
-#define LINGBARROW_STACK_GIVE_KEY 1600
-#define LINGBARROW_STACK_STRETCH 1264
+#define LINGBARROW_STACK_GIVE_KEY 1584
+#define LINGBARROW_STACK_STRETCH 1376
 #define LINGBARROW_STACK_WRITE_HLEND 160
 #define LINGBARROW_STACK_WRITE_ALLOCATION 192
 #define LINGBARROW_STACK_WRITE_XGEM_FRAME 208

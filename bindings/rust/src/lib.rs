@@ -124,14 +124,14 @@ pub mod message {
 /// Bytes of stack that each call of the library takes at most, as the C header has them. What a wrapper takes for itself and what the
 /// caller's own frames need comes on top.
 pub mod stack {
-    pub const POWER_ON: usize = 624;
+    pub const POWER_ON: usize = 616;
     pub const IN_RANGE: usize = 784;
-    pub const FRAME: usize = 3_832;
+    pub const FRAME: usize = 3_800;
     pub const LOST: usize = 1_584;
     pub const ADD_PORT: usize = 1_856;
     pub const REMOVE_PORT: usize = 1_856;
-    pub const GIVE_KEY: usize = 1_600;
-    pub const STRETCH: usize = 1_264;
+    pub const GIVE_KEY: usize = 1_584;
+    pub const STRETCH: usize = 1_376;
     pub const WRITE_HLEND: usize = 160;
     pub const WRITE_ALLOCATION: usize = 192;
     pub const WRITE_XGEM_FRAME: usize = 208;

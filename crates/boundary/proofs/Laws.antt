@@ -5,6 +5,7 @@ use mathlib.Core.Bool.{Bool, true, false}
 use mathlib.Core.List.{List, [], _∷_, _++_, append-nil}
 use Prim.Native.Nat.{ℕ, _≤_, _<_}
 use native.Mathlib.Omega.{arith}
+use lib.Dec.{leb}
 use lib.ListN.{length, take, drop, drop-of-length-le}
 use lib.Seq.{take-length}
 use borrow.Author.Tests.{le-leb, lt-leb}
@@ -33,7 +34,7 @@ use Rattle.layout.specs.declared.Contents.the-variants.{Held, Unreadable, Short
 use Rattle.layout.specs.Layout.{readOf, found, decoded, stored}
 use Rattle.layout.proofs.RoundTrips.{read-stored}
 use Rattle.boundary.specs.Calls.{StateLeft, by, asked, inRangeOn, keyLeft}
-use Rattle.boundary.specs.Frames.{BuffersLeft, PlaceLeft, answerBy, withoutRoom, counted, afterFrame, refusedFrame, frameBy, placed, placeBy}
+use Rattle.boundary.specs.Frames.{BuffersLeft, PlaceLeft, answerBy, openedBy, counted, afterFrame, refusedFrame, frameBy, placed, placeBy}
 use Rattle.boundary.specs.Writers.{Target, written}
 
 module _ (b : List ℕ) (r : StateRead) (e : r ≡ readOf b) where
@@ -106,20 +107,25 @@ copied src dst x e f =
     f ∙ ap (λ (l : List ℕ). l ++ drop (length src) dst) (take-length src)
     ∙ ap (λ (l : List ℕ). src ++ l) (drop-of-length-le dst {i = length src} (omega arith)) ∙ append-nil src
 
--- ---- what comes back has no room
+-- ---- the room for what comes back
 
-module _ (b f : List ℕ) where
-  pub room-held
-      : (s : Station) (valid : Bool) (o : Opening) (n : ℕ) → decoded b ≡ fields s → valid ≡ inRange s → o ≡ openingBy valid f false
-      → n ≡ answerNumber (answerBy o) → n ≡ withoutRoom (decoded b) f
-  room-held s valid o n ed ev eo en =
-      en ∙ ap (λ (z : Opening). answerNumber (answerBy z)) (eo ∙ opening-is s f valid false ev) ∙ sym (ap (λ (z : Found Station). withoutRoom z f) ed)
+module _ (b f : List ℕ) (room : Bool) where
+  pub opened-held
+      : (s : Station) (valid : Bool) (o : Opening) (n : ℕ) → decoded b ≡ fields s → valid ≡ inRange s → o ≡ openingBy valid f room
+      → n ≡ answerNumber (answerBy o) → n ≡ openedBy (decoded b) f room
+  opened-held s valid o n ed ev eo en =
+      en ∙ ap (λ (z : Opening). answerNumber (answerBy z)) (eo ∙ opening-is s f valid room ev) ∙ sym (ap (λ (z : Found Station). openedBy z f room) ed)
 
-  pub room-unreadable : decoded b ≡ unreadable → 1 ≡ withoutRoom (decoded b) f
-  room-unreadable ed = sym (ap (λ (z : Found Station). withoutRoom z f) ed)
+  pub opened-unreadable : decoded b ≡ unreadable → 1 ≡ openedBy (decoded b) f room
+  opened-unreadable ed = sym (ap (λ (z : Found Station). openedBy z f room) ed)
 
-  pub room-short : decoded b ≡ short → 3 ≡ withoutRoom (decoded b) f
-  room-short ed = sym (ap (λ (z : Found Station). withoutRoom z f) ed)
+  pub opened-short : decoded b ≡ short → 3 ≡ openedBy (decoded b) f room
+  opened-short ed = sym (ap (λ (z : Found Station). openedBy z f room) ed)
+
+-- without it
+module _ (b f have : List ℕ) (need n : ℕ) (h : length have < need) (e : n ≡ openedBy (decoded b) f (leb need (length have))) where
+  pub no-room : n ≡ openedBy (decoded b) f false
+  no-room = e ∙ ap (openedBy (decoded b) f) (lt-leb need (length have) h)
 
 -- ---- the frame call and the stretch
 

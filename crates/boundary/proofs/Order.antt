@@ -36,7 +36,7 @@ use Rattle.engine.specs.Answers.{Row}
 use Rattle.engine.proofs.Table.{table}
 use Rattle.layout.specs.Layout.{decoded}
 use Rattle.boundary.specs.Calls.{by, asked, inRangeOn, lostOn, addOn, removeOn, keyLeft, keyOn}
-use Rattle.boundary.specs.Frames.{countNumbers, placeNumbers, answerBy, withoutRoom, frameBy, frameOn, placeBy, placeOn}
+use Rattle.boundary.specs.Frames.{countNumbers, placeNumbers, answerBy, openedBy, frameBy, frameOn, placeBy, placeOn}
 
 -- 1: "state out of range"
 abbrev pub isOne : ℕ → Bool
@@ -200,11 +200,11 @@ module _ (b : List ℕ) where
   unfolding keyOn
   one-on-key key = same-one (λ (s : Station). keyLeft s key) (λ s. key-one s key)
 
-  room-on : (f : List ℕ) → isOne (withoutRoom (decoded b) f) ≡ isOne (inRangeOn b)
+  room-on : (f : List ℕ) → isOne (openedBy (decoded b) f false) ≡ isOne (inRangeOn b)
   unfolding inRangeOn
   room-on f = go (decoded b)
     where
-      go : (g : Found Station) → isOne (withoutRoom g f) ≡ isOne (by g (asked true) b .answer)
+      go : (g : Found Station) → isOne (openedBy g f false) ≡ isOne (by g (asked true) b .answer)
       go (fields s) = room-one s f ∙ sym (asked-one true s)
       go unreadable = refl
       go short = refl
@@ -221,7 +221,7 @@ module _ (b : List ℕ) where
       whole : isOne (frameBy (decoded b) b a counts lent .answer) ≡ isOne (inRangeOn b)
       whole = held (decoded b)
 
-      go : (fit : Bool) → isOne (cond fit (frameBy (decoded b) b a counts lent) (record { answer = withoutRoom (decoded b) (a .octets); state = b; counts = counts; lent = lent }) .answer) ≡ isOne (inRangeOn b)
+      go : (fit : Bool) → isOne (cond fit (frameBy (decoded b) b a counts lent) (record { answer = openedBy (decoded b) (a .octets) false; state = b; counts = counts; lent = lent }) .answer) ≡ isOne (inRangeOn b)
       go true = whole
       go false = room-on (a .octets)
 
@@ -237,6 +237,6 @@ module _ (b : List ℕ) where
       whole : isOne (placeBy (decoded b) f k place .answer) ≡ isOne (inRangeOn b)
       whole = held (decoded b)
 
-      go : (fit : Bool) → isOne (cond fit (placeBy (decoded b) f k place) (record { answer = withoutRoom (decoded b) f; place = place }) .answer) ≡ isOne (inRangeOn b)
+      go : (fit : Bool) → isOne (cond fit (placeBy (decoded b) f k place) (record { answer = openedBy (decoded b) f false; place = place }) .answer) ≡ isOne (inRangeOn b)
       go true = whole
       go false = room-on f

@@ -2,7 +2,7 @@
 -- Assumes nothing.
 use Prim.Native.Nat.{ℕ}
 use mathlib.Core.Path.{_≡_}
-use mathlib.Core.Bool.{false, cond}
+use mathlib.Core.Bool.{Bool, false, cond}
 use mathlib.Core.List.{List, [], _∷_}
 use lib.Dec.{leb}
 use lib.ListN.{length}
@@ -28,19 +28,18 @@ countNumbers = 3
 abbrev pub placeNumbers : ℕ
 placeNumbers = 2
 
--- ---- what comes back has no room: one more buffer is too short
+-- ---- the room for what comes back, one more buffer that can be too short
 
--- the answer to a frame that is not opened
 abbrev pub answerBy : Opening → Answer
 answerBy (Refused answer) = answer
 answerBy (Unread answer) = answer
 answerBy (Opened h) = Done
 
--- "Tested in the order of the numbers": 1 and 2 come before 3
-abbrev pub withoutRoom : Found Station → List ℕ → ℕ
-withoutRoom (fields s) f = answerNumber (answerBy (opening s f false))
-withoutRoom unreadable f = answerNumber StateOutOfRange
-withoutRoom short f = answerNumber BufferTooShort
+-- "Tested in the order of the numbers": as a frame is opened, 1 and 2 come before 3
+abbrev pub openedBy : Found Station → List ℕ → Bool → ℕ
+openedBy (fields s) f room = answerNumber (answerBy (opening s f room))
+openedBy unreadable f room = answerNumber StateOutOfRange
+openedBy short f room = answerNumber BufferTooShort
 
 -- ---- the frame call
 
@@ -77,7 +76,7 @@ frameBy short b a counts lent = refusedFrame (answerNumber BufferTooShort) b cou
 unfoldable pub frameOn : List ℕ → Arrival → List ℕ → Lent → BuffersLeft
 frameOn b a counts lent =
     cond (leb countNumbers (length counts)) (frameBy (decoded b) b a counts lent)
-    (record { answer = withoutRoom (decoded b) (a .octets); state = b; counts = counts; lent = lent })
+    (record { answer = openedBy (decoded b) (a .octets) false; state = b; counts = counts; lent = lent })
 
 -- the whole contract: of the answer's number and of the buffers at exit
 abbrev pub BuffersAre : ℕ → List ℕ → List ℕ → Lent → BuffersLeft → Type 0
@@ -101,7 +100,7 @@ placeBy short f k place = placed (answerNumber BufferTooShort) place 0 0
 -- without room for the place nothing is changed
 unfoldable pub placeOn : List ℕ → List ℕ → ℕ → List ℕ → PlaceLeft
 placeOn b f k place =
-    cond (leb placeNumbers (length place)) (placeBy (decoded b) f k place) (record { answer = withoutRoom (decoded b) f; place = place })
+    cond (leb placeNumbers (length place)) (placeBy (decoded b) f k place) (record { answer = openedBy (decoded b) f false; place = place })
 
 abbrev pub PlaceIs : ℕ → List ℕ → PlaceLeft → Type 0
 PlaceIs answer place left = record { answer = answer; place = place } ≡ left

@@ -2,12 +2,13 @@
 ghost use mathlib.Core.Path.{_≡_};
 ghost use mathlib.Core.List.{[], _∷_};
 ghost use Prim.Native.Nat.{_≤_};
+ghost use lib.Dec.{leb};
 ghost use lib.ListN.{length};
 ghost use Rattle.xgem.specs.Writes.{put};
 ghost use Rattle.answers.specs.Answers.{answerNumber};
 ghost use Rattle.frame.specs.Given.{arriving, lending};
 ghost use Rattle.layout.specs.Layout.{decoded};
-ghost use Rattle.boundary.specs.Frames.{BuffersAre, PlaceIs, countNumbers, placeNumbers, answerBy, withoutRoom, counted, frameOn, placeOn};
+ghost use Rattle.boundary.specs.Frames.{BuffersAre, PlaceIs, countNumbers, placeNumbers, answerBy, openedBy, counted, frameOn, placeOn};
 use super::states;
 use downstream::Opening;
 use frame::Counts;
@@ -50,9 +51,10 @@ fn answer_by(o: Opening) -> u8
     }
 }
 
-// What comes back has no room: 1, 2 or 3, and nothing is changed. A function of its own, so that a call with room has none of it on its way.
-fn without_room(state: &[u8], frame: &[u8]) -> u8
-    ensures { λ r. ⌜ r ≡ withoutRoom (decoded (now (state .entry))) (now (frame .entry)) ⌝ }
+// The answer to a frame where what comes back has room for so many numbers and needs so many. A call that has too few asks for it;
+// that the room is tested here again leaves the way of all others as it is without that question (docs/PERFORMANCE.md).
+fn opened(state: &[u8], frame: &[u8], have: usize, need: usize) -> u8
+    ensures { λ r. ⌜ r ≡ openedBy (decoded (now (state .entry))) (now (frame .entry)) (leb need have) ⌝ }
 {
     let read = layout::read_state(state);
     let contents = read.contents;
@@ -60,7 +62,7 @@ fn without_room(state: &[u8], frame: &[u8]) -> u8
     match contents {
         Contents::Held => {
             let valid = engine::in_range(s);
-            answer_by(downstream::open(valid, frame, false))
+            answer_by(downstream::open(valid, frame, need <= have))
         }
         Contents::Unreadable => STATE_OUT_OF_RANGE,
         Contents::Short => BUFFER_TOO_SHORT,
@@ -82,7 +84,7 @@ pub extern "C" fn lingbarrow_frame(
     ensures { λ r. ⌜ BuffersAre r (now (state .exit)) (now (counts .exit)) (lending (now (memory .exit)) (now (plan .exit)) (now (replies .exit)) (now (deliveries .exit))) (frameOn (now (state .entry)) (arriving (now (frame .entry)) «random_delay») (now (counts .entry)) (lending (now (memory .entry)) (now (plan .entry)) (now (replies .entry)) (now (deliveries .entry)))) ⌝ }
 {
     if counts.len() < COUNTS {
-        return without_room(state, frame);
+        return opened(state, frame, counts.len(), COUNTS);
     }
     let read = layout::read_state(state);
     let contents = read.contents;
@@ -118,7 +120,7 @@ pub extern "C" fn lingbarrow_stretch(
     ensures { λ r. ⌜ PlaceIs r (now (place .exit)) (placeOn (now (state .entry)) (now (frame .entry)) k (now (place .entry))) ⌝ }
 {
     if place.len() < PLACE {
-        return without_room(state, frame);
+        return opened(state, frame, place.len(), PLACE);
     }
     let read = layout::read_state(state);
     let contents = read.contents;

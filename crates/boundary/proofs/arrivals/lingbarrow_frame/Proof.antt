@@ -4,7 +4,7 @@ use Rattle.frame.specs.Given.{Arrival, Lent, arriving, lending}
 use denote.Ref.{now}
 use borrow.Author.Tests.{le-leb, lt-leb}
 use Rattle.boundary.specs.Frames.{frameOn}
-use Rattle.boundary.proofs.Laws.{is-held, is-unreadable, is-short, frame-held, frame-unreadable, frame-short}
+use Rattle.boundary.proofs.Laws.{is-held, is-unreadable, is-short, no-room, frame-held, frame-unreadable, frame-short}
 use borrow.Author.Needs.{needs}
 use Rattle.boundary.proofs.arrivals.lingbarrow_frame.Statement.{statement}
 use Rattle.boundary.proofs.arrivals.lingbarrow_frame.Tie as tie
@@ -15,15 +15,15 @@ arrived c = arriving (now (c .args .frame)) (c .args .random-delay)
 abbrev buffers : tie.Start → Lent
 buffers c = lending (now (c .args .memory)) (now (c .args .plan)) (now (c .args .replies)) (now (c .args .deliveries))
 
-without-room-requires : tie.Need-without-room-requires
-without-room-requires c κs = search needs
+opened-requires : tie.Need-opened-requires
+opened-requires c κs = search needs
 
 same-length : tie.Need-same-length
 same-length c = search needs
 
 returns : tie.Need-returns
 unfolding frameOn
-returns c = rw (lt-leb _ _ (c .before .before .if1 .taken)) (λ j. record { answer = c .without-room .ensures j; state = now (c .before .before .before .before .before .before .before .before .before .before .args .state); counts = now (c .before .before .before .before .before .before .before .before .before .before .args .counts); lent = lending (now (c .before .before .before .before .before .before .before .before .before .before .args .memory)) (now (c .before .before .before .before .before .before .before .before .before .before .args .plan)) (now (c .before .before .before .before .before .before .before .before .before .before .args .replies)) (now (c .before .before .before .before .before .before .before .before .before .before .args .deliveries)) })
+returns c = rw (lt-leb _ _ (c .before .before .if1 .taken)) (λ j. record { answer = no-room (now (c .before .before .before .before .before .before .before .before .before .before .args .state)) (now (c .before .before .before .before .before .before .before .before .before .before .args .frame)) (now (c .before .before .before .before .before .before .before .before .before .before .args .counts)) 3 _ (c .before .before .if1 .taken) (c .opened .ensures) j; state = now (c .before .before .before .before .before .before .before .before .before .before .args .state); counts = now (c .before .before .before .before .before .before .before .before .before .before .args .counts); lent = lending (now (c .before .before .before .before .before .before .before .before .before .before .args .memory)) (now (c .before .before .before .before .before .before .before .before .before .before .args .plan)) (now (c .before .before .before .before .before .before .before .before .before .before .args .replies)) (now (c .before .before .before .before .before .before .before .before .before .before .args .deliveries)) })
 
 read-state-requires : tie.Need-read-state-requires
 read-state-requires c κs = search needs
@@ -104,7 +104,7 @@ pub lingbarrow-frame-spec : {M : Type 1} → statement M
 lingbarrow-frame-spec =
     tie.close
     (tie.spec
-    without-room-requires
+    opened-requires
     same-length
     returns
     read-state-requires

@@ -3,17 +3,17 @@
 use denote.Ref.{now}
 use borrow.Author.Tests.{le-leb, lt-leb}
 use Rattle.boundary.specs.Frames.{placeOn}
-use Rattle.boundary.proofs.Laws.{is-held, is-unreadable, is-short, place-held, place-unreadable, place-short}
+use Rattle.boundary.proofs.Laws.{is-held, is-unreadable, is-short, no-room, place-held, place-unreadable, place-short}
 use borrow.Author.Needs.{needs}
 use Rattle.boundary.proofs.arrivals.lingbarrow_stretch.Statement.{statement}
 use Rattle.boundary.proofs.arrivals.lingbarrow_stretch.Tie as tie
 
-without-room-requires : tie.Need-without-room-requires
-without-room-requires c κs = search needs
+opened-requires : tie.Need-opened-requires
+opened-requires c κs = search needs
 
 returns : tie.Need-returns
 unfolding placeOn
-returns c = rw (lt-leb _ _ (c .before .if1 .taken)) (λ j. record { answer = c .without-room .ensures j; place = now (c .before .before .before .before .before .args .place) })
+returns c = rw (lt-leb _ _ (c .before .if1 .taken)) (λ j. record { answer = no-room (now (c .before .before .before .before .before .args .state)) (now (c .before .before .before .before .before .args .frame)) (now (c .before .before .before .before .before .args .place)) 2 _ (c .before .if1 .taken) (c .opened .ensures) j; place = now (c .before .before .before .before .before .args .place) })
 
 read-state-requires : tie.Need-read-state-requires
 read-state-requires c κs = search needs
@@ -67,7 +67,7 @@ pub lingbarrow-stretch-spec : {M : Type 1} → statement M
 lingbarrow-stretch-spec =
     tie.close
     (tie.spec
-    without-room-requires
+    opened-requires
     returns
     read-state-requires
     enum-told
