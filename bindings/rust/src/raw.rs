@@ -27,6 +27,16 @@ extern "C" {
     fn lingbarrow_remove_port(state: *mut u8, state_length: usize, port: u16) -> u8;
     fn lingbarrow_give_key(state: *mut u8, state_length: usize, key: *const u8, key_length: usize) -> u8;
     fn lingbarrow_stretch(state: *const u8, state_length: usize, frame: *const u8, frame_length: usize, k: usize, place: *mut usize, place_length: usize) -> u8;
+    fn lingbarrow_stretches(
+        state: *const u8,
+        state_length: usize,
+        frame: *const u8,
+        frame_length: usize,
+        places: *mut usize,
+        places_length: usize,
+        counts: *mut usize,
+        counts_length: usize,
+    ) -> u8;
     fn lingbarrow_write_hlend(bwmap: u16, ploam: u8, target: *mut u8, target_length: usize) -> u8;
     fn lingbarrow_write_allocation(alloc: u16, dbru: u8, ploamu: u8, start: u16, grant: u16, fwi: u8, profile: u8, target: *mut u8, target_length: usize) -> u8;
     fn lingbarrow_write_xgem_frame(key: u8, port: u16, options: u32, last: u8, sdu: *const u8, sdu_length: usize, target: *mut u8, target_length: usize) -> u8;
@@ -86,6 +96,12 @@ pub fn give_key(state: &mut [u8], key: &[u8]) -> u8 {
 
 pub fn stretch(state: &[u8], frame: &[u8], k: usize, place: &mut [usize]) -> u8 {
     unsafe { lingbarrow_stretch(state.as_ptr(), state.len(), frame.as_ptr(), frame.len(), k, place.as_mut_ptr(), place.len()) }
+}
+
+pub fn stretches(state: &[u8], frame: &[u8], places: &mut [usize], counts: &mut [usize]) -> u8 {
+    unsafe {
+        lingbarrow_stretches(state.as_ptr(), state.len(), frame.as_ptr(), frame.len(), places.as_mut_ptr(), places.len(), counts.as_mut_ptr(), counts.len())
+    }
 }
 
 pub fn write_hlend(bwmap: u16, ploam: u8, target: &mut [u8]) -> u8 {

@@ -3,6 +3,7 @@
 // them there is nothing to test and no place for what comes back; then the calls answer as the engine's do.
 mod arrivals;
 mod states;
+mod stretching;
 mod writers;
 
 pub use arrivals::lingbarrow_frame;
@@ -12,6 +13,7 @@ pub use states::lingbarrow_give_key;
 pub use states::lingbarrow_lost;
 pub use states::lingbarrow_power_on;
 pub use states::lingbarrow_remove_port;
+pub use stretching::lingbarrow_stretches;
 pub use writers::lingbarrow_write_allocation;
 pub use writers::lingbarrow_write_hlend;
 pub use writers::lingbarrow_write_xgem_frame;
