@@ -2,12 +2,12 @@
  *
  * A station's run: lingbarrow_power_on once; then for each frame time of 125 us lingbarrow_frame, or lingbarrow_lost; ports and the key
  * at any time between. Each call gets the state and the port memory as the last one left them: they are the station's own.
- * A stretch of a frame is asked for BEFORE that frame's lingbarrow_frame: see lingbarrow_stretch.
+ * A stretch of a frame is asked for BEFORE that frame's lingbarrow_frame: see lingbarrow_stretch, lingbarrow_stretches.
  *
  * Every call answers for every content of every buffer: nothing that the bytes or the lengths say is undefined behaviour. What
  * C must grant, and no code can test:
  *   - no pointer is null, also where its length is 0, and each points to as many elements as its length says;
- *   - `plan` is aligned to 2 bytes, `counts` and `place` to that of size_t;
+ *   - `plan` is aligned to 2 bytes, `counts`, `place` and `places` to that of size_t;
  *   - no two buffers of one call overlap.
  * No call keeps a pointer, allocates, or has state of its own: calls on different buffers may run at the same time.
  *
@@ -47,6 +47,8 @@ extern "C" {
 #define LINGBARROW_DELIVERY_BYTES(frame_bytes) ((size_t)(frame_bytes) + LINGBARROW_MEMORY_BYTES)
 #define LINGBARROW_COUNTS 3
 #define LINGBARROW_PLACE 2
+#define LINGBARROW_PLACES(frame_bytes) ((size_t)(frame_bytes) / 8) /* of all stretches: an SDU takes 16 bytes of the frame at least, and two numbers */
+#define LINGBARROW_STRETCH_COUNTS 1
 #define LINGBARROW_FRAME_MOST 135432  /* a frame has 4 bytes to so many, a multiple of 4 */
 #define LINGBARROW_DELAY_MOST 119439  /* bit times, 48 us: a longer random delay counts as this */
 
@@ -85,7 +87,7 @@ extern "C" {
 
 /* Answers, tested in the order of the numbers: of all that is wrong the lowest number is answered. Only a state that is too short is
  * answered 3 before all else: there are no bytes to test. After 1, 2, 3 and 7 to 11 nothing is changed, except that the frame call and
- * the stretch set their numbers to 0 where these have room. */
+ * the stretches set their numbers to 0 where these have room. */
 #define LINGBARROW_DONE 0
 #define LINGBARROW_STATE_OUT_OF_RANGE 1 /* also: bytes that are no state's */
 #define LINGBARROW_FRAME_LENGTH 2
@@ -142,6 +144,7 @@ extern "C" {
 #define LINGBARROW_STACK_REMOVE_PORT 1856
 #define LINGBARROW_STACK_GIVE_KEY 1584
 #define LINGBARROW_STACK_STRETCH 1376
+#define LINGBARROW_STACK_STRETCHES 1216
 #define LINGBARROW_STACK_WRITE_HLEND 160
 #define LINGBARROW_STACK_WRITE_ALLOCATION 192
 #define LINGBARROW_STACK_WRITE_XGEM_FRAME 208
@@ -162,6 +165,13 @@ uint8_t lingbarrow_in_range(const uint8_t *state, size_t state_length);
  * for all stretches of a frame before its lingbarrow_frame, or of a copy of the state that was taken before it. */
 uint8_t lingbarrow_stretch(const uint8_t *state, size_t state_length, const uint8_t *frame, size_t frame_length, size_t k,
                            size_t *place, size_t place_length);
+
+/* All stretches of a frame in one call: `places` gets offset and length of each delivery, one after the other, as lingbarrow_stretch
+ * gives them for each k, and `counts` how many deliveries there are, those that stand in no piece included. 0 to 6; 3 is about
+ * `state`, `places` and `counts`. After 1 to 5 `places` is as it was and the count 0; past what is written `places` is as it was.
+ * BEFORE the frame call too. */
+uint8_t lingbarrow_stretches(const uint8_t *state, size_t state_length, const uint8_t *frame, size_t frame_length,
+                             size_t *places, size_t places_length, size_t *counts, size_t counts_length);
 
 /* A frame has arrived, descrambled and error-corrected, and without PSBd: its first byte is HLend's. 0 to 6.
  *

@@ -128,6 +128,49 @@ fn make_frame(rng: &mut Rng, s: &Station) -> Vec<u8> {
     bytes
 }
 
+/// All stretches of a frame, before its frame call: each is the independent engine's, from the count on it has none, and past them the
+/// list is as it was. A list that is a number too short, or no room for the count, is answered 3 where 1 and 2 is not the answer. What
+/// is returned is the count.
+fn all_stretches(rng: &mut Rng, state: *const u8, peer: &Station, f: &[u8]) -> usize {
+    let call = |places: &mut [usize], count: &mut [usize]| unsafe {
+        lingbarrow_stretches(state, STATE, f.as_ptr(), f.len(), places.as_mut_ptr(), places.len(), count.as_mut_ptr(), count.len())
+    };
+    let need = f.len() / 8;
+    let mut places = vec![7; need + rng.below(3) as usize];
+    let mut count = [7; 2];
+    let said = stretch(peer, f, 0).0.number();
+    assert_eq!(call(&mut places, &mut count), said, "all stretches: the answer");
+    let [found, rest] = count;
+    assert_eq!(rest, 7, "past the count");
+    for k in 0..=found {
+        let (answer, part) = stretch(peer, f, k);
+        let at = if part.is_empty() { 0 } else { part.as_ptr() as usize - f.as_ptr() as usize };
+        assert_eq!(answer.number(), said, "all stretches: the answer to one");
+        assert_eq!([at, part.len()], if k < found { [places[2 * k], places[2 * k + 1]] } else { [0, 0] }, "all stretches: number {k}");
+    }
+    assert!(places[2 * found..].iter().all(|n| *n == 7), "past the stretches");
+    let short = if said == 1 || said == 2 { said } else { 3 };
+    places.fill(7);
+    count = [9; 2];
+    assert_eq!(call(&mut places, &mut []), short, "no room for the count");
+    if need > 0 {
+        assert_eq!(call(&mut places[..need - 1], &mut count), short, "no room for the stretches");
+        assert_eq!(count, [0, 9], "no room for the stretches: the count");
+    }
+    assert!(places.iter().all(|n| *n == 7), "no room: the list");
+    found
+}
+
+/// How many deliveries stand in so many bytes.
+fn deliveries(mut of: &[u8]) -> usize {
+    let mut count = 0;
+    while !of.is_empty() {
+        of = &of[4 + usize::from(u16::from_be_bytes([of[2], of[3]]))..];
+        count += 1;
+    }
+    count
+}
+
 /// A state that no run need reach, in range or not.
 fn unsettle(rng: &mut Rng, s: &mut Station) {
     match rng.below(12) {
@@ -271,6 +314,7 @@ fn main() {
                     }
                     let [m, p, r, d] = lengths;
                     let mut counts = COUNTS_BEFORE;
+                    let found = all_stretches(&mut rng, state, &peer, &f);
                     let out = frame(&mut peer, &f, delay, Lent {
                         memory: &mut theirs.memory[..m],
                         plan: &mut theirs.plan[..p],
@@ -284,6 +328,9 @@ fn main() {
                         )
                     };
                     assert_eq!(counts, [out.records, out.replies, out.delivered], "the counts");
+                    if answer == 0 || answer == 6 {
+                        assert_eq!(deliveries(&lent.deliveries[..out.delivered]), found, "as many stretches as deliveries");
+                    }
                     (0..3).for_each(|i| written[i] += counts[i]);
                     (answer, out.answer.number())
                 }
@@ -304,6 +351,7 @@ fn main() {
                 _ => {
                     let f = make_frame(&mut rng, &peer);
                     let k = rng.below(4) as usize;
+                    all_stretches(&mut rng, state, &peer, &f);
                     let mut place = [7usize; 2];
                     let answer = unsafe { lingbarrow_stretch(state, STATE, f.as_ptr(), f.len(), k, place.as_mut_ptr(), 2) };
                     let (said, part) = stretch(&peer, &f, k);

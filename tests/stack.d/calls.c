@@ -17,6 +17,8 @@ const struct lengths whole = {
     LINGBARROW_DELIVERY_BYTES(LINGBARROW_FRAME_MOST),
     LINGBARROW_COUNTS,
     LINGBARROW_PLACE,
+    LINGBARROW_PLACES(LINGBARROW_FRAME_MOST),
+    LINGBARROW_STRETCH_COUNTS,
     TARGET,
     LINGBARROW_SERIAL_BYTES,
     LINGBARROW_REGISTRATION_BYTES,
@@ -83,6 +85,13 @@ static void stretch(void)
     answer = lingbarrow_stretch(lent.state, lengths.state, frame, frame_length, given.number, lent.place, lengths.place);
 }
 
+static void stretches(void)
+{
+    called_from = __builtin_frame_address(0);
+    answer = lingbarrow_stretches(lent.state, lengths.state, frame, frame_length, lent.places, lengths.places, lent.stretch_counts,
+                                  lengths.stretch_counts);
+}
+
 static void write_hlend(void)
 {
     called_from = __builtin_frame_address(0);
@@ -120,6 +129,7 @@ static struct {
     [REMOVE_PORT] = CALL(remove_port, lingbarrow_remove_port, LINGBARROW_STACK_REMOVE_PORT),
     [GIVE_KEY] = CALL(give_key, lingbarrow_give_key, LINGBARROW_STACK_GIVE_KEY),
     [STRETCH] = CALL(stretch, lingbarrow_stretch, LINGBARROW_STACK_STRETCH),
+    [STRETCHES] = CALL(stretches, lingbarrow_stretches, LINGBARROW_STACK_STRETCHES),
     [WRITE_HLEND] = CALL(write_hlend, lingbarrow_write_hlend, LINGBARROW_STACK_WRITE_HLEND),
     [WRITE_ALLOCATION] = CALL(write_allocation, lingbarrow_write_allocation, LINGBARROW_STACK_WRITE_ALLOCATION),
     [WRITE_XGEM_FRAME] = CALL(write_xgem_frame, lingbarrow_write_xgem_frame, LINGBARROW_STACK_WRITE_XGEM_FRAME),

@@ -145,6 +145,7 @@ static void keep(void)
 {
     memset(lent.counts, 0, sizeof lent.counts);
     memset(lent.place, 0, sizeof lent.place);
+    memset(lent.stretch_counts, 0, sizeof lent.stretch_counts);
     memcpy(&kept, &lent, sizeof lent);
     station_kept = station;
 }
@@ -216,7 +217,7 @@ static void house(unsigned flips, const struct kind *last)
         expected.bytes = expected.deliveries = 0;
 }
 
-/* A delivery that stands in one piece, one of several fragments, the last, and none. */
+/* All of them at once; and a delivery that stands in one piece, one of several fragments, the last, and none. */
 static void stretches(const char *what, unsigned wanted)
 {
     bool walked = wanted == LINGBARROW_DONE || wanted == LINGBARROW_DELINEATION_LOST;
@@ -237,6 +238,14 @@ static void stretches(const char *what, unsigned wanted)
         claim(lent.place[0] == (delivered ? expected.stretch[numbers[i]].at : 0), "the stretch's offset");
         claim(lent.place[1] == (delivered ? expected.stretch[numbers[i]].bytes : 0), "the stretch's length");
     }
+    memset(lent.places, 0x77, sizeof lent.places);
+    memset(lent.stretch_counts, 0x77, sizeof lent.stretch_counts);
+    call(STRETCHES, what, wanted);
+    claim(lent.stretch_counts[0] == count, "the count of stretches");
+    for (size_t i = 0; i < count; i++)
+        claim(lent.places[2 * i] == expected.stretch[i].at && lent.places[2 * i + 1] == expected.stretch[i].bytes, "each stretch");
+    for (size_t i = 2 * count; i < LINGBARROW_PLACES(LINGBARROW_FRAME_MOST); i++)
+        claim(!memcmp(lent.places + i, "\x77\x77\x77\x77\x77\x77\x77\x77", sizeof lent.places[i]), "the list past the stretches");
 }
 
 static void houses(void)
@@ -420,7 +429,7 @@ static void set_onu_id(unsigned id)
 /* What all calls refuse that take a state. */
 static void states_refused(void)
 {
-    static const unsigned taking[] = {IN_RANGE, FRAME, LOST, ADD_PORT, REMOVE_PORT, GIVE_KEY, STRETCH};
+    static const unsigned taking[] = {IN_RANGE, FRAME, LOST, ADD_PORT, REMOVE_PORT, GIVE_KEY, STRETCH, STRETCHES};
 
     back();
     begin_frame();
@@ -463,10 +472,16 @@ static void frames_refused(void)
     refused(FRAME, "counts that are too short", LINGBARROW_BUFFER_TOO_SHORT);
     lengths.place--;
     refused(STRETCH, "a place that is too short", LINGBARROW_BUFFER_TOO_SHORT);
+    lengths.stretch_counts--;
+    refused(STRETCHES, "no room for the count", LINGBARROW_BUFFER_TOO_SHORT);
+    frame_length = 8;
+    lengths.places = LINGBARROW_PLACES(frame_length) - 1;
+    refused(STRETCHES, "a list that is too short", LINGBARROW_BUFFER_TOO_SHORT);
     for (unsigned i = 0; i < COUNT(unfit); i++) {
         frame_length = unfit[i];
         refused(FRAME, "a length that no frame has", LINGBARROW_FRAME_LENGTH);
         refused(STRETCH, "a length that no frame has", LINGBARROW_FRAME_LENGTH);
+        refused(STRETCHES, "a length that no frame has", LINGBARROW_FRAME_LENGTH);
         lengths.counts--;
         refused(FRAME, "a length that no frame has, and counts that are too short", LINGBARROW_FRAME_LENGTH);
         lengths.place--;

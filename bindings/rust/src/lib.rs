@@ -132,6 +132,7 @@ pub mod stack {
     pub const REMOVE_PORT: usize = 1_856;
     pub const GIVE_KEY: usize = 1_584;
     pub const STRETCH: usize = 1_376;
+    pub const STRETCHES: usize = 1_216;
     pub const WRITE_HLEND: usize = 160;
     pub const WRITE_ALLOCATION: usize = 192;
     pub const WRITE_XGEM_FRAME: usize = 208;
@@ -510,6 +511,29 @@ impl<'f> Arriving<'_, 'f> {
         Ok(Some(&self.frame[at..at + bytes]).filter(|s| !s.is_empty()))
     }
 
+    /// Every SDU that will be delivered, in order, each as [`stretch`](Arriving::stretch) has it, in one walk over the frame. `places`
+    /// is lent for it, [`places`] numbers for the frame's bytes; what it holds afterwards is of no use.
+    ///
+    /// ```
+    /// # use lingbarrow::{places, write_hlend, Station};
+    /// # let mut station = Station::power_on([0; 8], [0; 36]);
+    /// # let mut frame = [0; 1024];
+    /// # write_hlend(0, 0, &mut frame)?;
+    /// let mut lent = [0; places(1024)];
+    /// for sdu in station.arriving(&frame).stretches(&mut lent)?.flatten() {
+    ///     println!("{} bytes in one piece", sdu.len());
+    /// }
+    /// # Ok::<(), lingbarrow::Error>(())
+    /// ```
+    pub fn stretches<'p>(&self, places: &'p mut [usize]) -> Result<Stretches<'f, 'p>, Error> {
+        let mut count = [0];
+        match Error::of(raw::stretches(&self.station.state, self.frame, places, &mut count)) {
+            None | Some(Error::DelineationLost) => {}
+            Some(e) => return Err(e),
+        }
+        Ok(Stretches { frame: self.frame, places: places[..2 * count[0]].chunks_exact(2) })
+    }
+
     /// The frame acts: its plan, replies and deliveries go to the buffers, and the station to its next state. `random_delay` is what the
     /// caller drew for a burst in O2-3, in bit times of 2.48832 Gbit/s; the engine writes it into Serial_Number_ONU.
     ///
@@ -532,6 +556,41 @@ impl<'f> Arriving<'_, 'f> {
             deliveries: &buffers.deliveries[..bytes],
             delineation_lost,
         })
+    }
+}
+
+/// Numbers that [`Arriving::stretches`] is lent for a frame of so many bytes: an SDU takes 16 of them at least, and two numbers.
+pub const fn places(frame_bytes: usize) -> usize {
+    frame_bytes / 8
+}
+
+/// The SDUs of a frame, in the order of its deliveries, each as its own stretch of the frame; `None` for one that is put together from
+/// fragments.
+#[derive(Clone)]
+pub struct Stretches<'f, 'p> {
+    frame: &'f [u8],
+    places: std::slice::ChunksExact<'p, usize>,
+}
+
+impl<'f> Iterator for Stretches<'f, '_> {
+    type Item = Option<&'f [u8]>;
+
+    fn next(&mut self) -> Option<Option<&'f [u8]>> {
+        let place = self.places.next()?;
+        Some(Some(&self.frame[place[0]..place[0] + place[1]]).filter(|s| !s.is_empty()))
+    }
+
+    fn size_hint(&self) -> (usize, Option<usize>) {
+        self.places.size_hint()
+    }
+}
+
+impl ExactSizeIterator for Stretches<'_, '_> {}
+impl std::iter::FusedIterator for Stretches<'_, '_> {}
+
+impl std::fmt::Debug for Stretches<'_, '_> {
+    fn fmt(&self, f: &mut std::fmt::Formatter<'_>) -> std::fmt::Result {
+        f.debug_struct("Stretches").field("left", &self.len()).finish_non_exhaustive()
     }
 }
 

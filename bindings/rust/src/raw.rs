@@ -28,6 +28,16 @@ extern "C" {
     fn lingbarrow_remove_port(state: *mut u8, state_length: usize, port: u16) -> u8;
     fn lingbarrow_give_key(state: *mut u8, state_length: usize, key: *const u8, key_length: usize) -> u8;
     fn lingbarrow_stretch(state: *const u8, state_length: usize, frame: *const u8, frame_length: usize, k: usize, place: *mut usize, place_length: usize) -> u8;
+    fn lingbarrow_stretches(
+        state: *const u8,
+        state_length: usize,
+        frame: *const u8,
+        frame_length: usize,
+        places: *mut usize,
+        places_length: usize,
+        counts: *mut usize,
+        counts_length: usize,
+    ) -> u8;
     fn lingbarrow_write_hlend(bwmap: u32, ploam: u32, target: *mut u8, target_length: usize) -> u8;
     fn lingbarrow_write_allocation(alloc: u32, dbru: u32, ploamu: u32, start: u32, grant: u32, fwi: u32, profile: u32, target: *mut u8, target_length: usize) -> u8;
     fn lingbarrow_write_xgem_frame(key: u32, port: u32, options: u32, last: u32, sdu: *const u8, sdu_length: usize, target: *mut u8, target_length: usize) -> u8;
@@ -91,6 +101,12 @@ pub fn give_key(state: &mut [u8], key: &[u8]) -> u8 {
 
 pub fn stretch(state: &[u8], frame: &[u8], k: usize, place: &mut [usize]) -> u8 {
     unsafe { lingbarrow_stretch(state.as_ptr(), state.len(), frame.as_ptr(), frame.len(), k, place.as_mut_ptr(), place.len()) }
+}
+
+pub fn stretches(state: &[u8], frame: &[u8], places: &mut [usize], counts: &mut [usize]) -> u8 {
+    unsafe {
+        lingbarrow_stretches(state.as_ptr(), state.len(), frame.as_ptr(), frame.len(), places.as_mut_ptr(), places.len(), counts.as_mut_ptr(), counts.len())
+    }
 }
 
 pub fn write_hlend(bwmap: u32, ploam: u32, target: &mut [u8]) -> u8 {

@@ -1,6 +1,6 @@
 //! The wrappers over whole runs: the bench run's sample, line for line, and what the types are for.
 use lingbarrow::{
-    at, message, write_hlend, write_xgem_frame, Activation, AllocId, Arriving, Buffers, Completion, Error, OnuId, Owed, Port, PortId, Station, MEMORY_BYTES,
+    at, message, places, write_hlend, write_xgem_frame, Activation, AllocId, Arriving, Buffers, Completion, Error, OnuId, Owed, Port, PortId, Station, MEMORY_BYTES,
     SAVED_BYTES, STATE_VERSION,
 };
 
@@ -65,6 +65,9 @@ fn stretches_are_those_of_the_state_in_which_the_frame_arrives() {
     let arriving = station.arriving(&frame);
     let stretches = [0, 1, 2].map(|k| arriving.stretch(k).unwrap());
     assert_eq!(stretches, [None, Some(&b"a whole."[..]), None]);
+    let mut lent = vec![0; places(frame.len())];
+    assert_eq!(arriving.stretches(&mut lent).unwrap().collect::<Vec<_>>(), stretches[..2]);
+    assert_eq!(arriving.stretches(&mut lent[1..]).err(), Some(Error::BufferTooShort));
     assert_eq!(receive(arriving, &mut buffers), [(5, b"a first and last".to_vec()), (5, b"a whole.".to_vec())]);
     assert_eq!(station.arriving(&frame[..6]).stretch(0), Err(Error::FrameLengthUnfit));
 }
@@ -138,6 +141,7 @@ fn the_sample_of_the_bench_run() {
     let lines: Vec<&str> = include_str!("../../../crates/trace/stdout").lines().collect();
     assert_eq!((records.len(), lines.len()), (11, 12));
     let mut buffers = Buffers::new(1020);
+    let mut lent = [0; places(1020)];
     let mut stations = [Station::power_on([0; 8], [0; 36]), Station::power_on([0; 8], [0; 36])];
     for turn in 0..=records.len() {
         for (k, station) in stations.iter_mut().enumerate() {
@@ -147,7 +151,16 @@ fn the_sample_of_the_bench_run() {
             if records[n][0] == 0 {
                 station.lost();
             } else {
-                said = match station.arriving(&records[n][4..]).receive(0, &mut buffers) {
+                let arriving = station.arriving(&records[n][4..]);
+                let each = |k| arriving.stretch(k);
+                match arriving.stretches(&mut lent) {
+                    Ok(all) => {
+                        assert_eq!(each(all.len()), Ok(None));
+                        assert!(all.enumerate().all(|(k, sdu)| each(k) == Ok(sdu)));
+                    }
+                    Err(e) => assert_eq!(each(0), Err(e)),
+                }
+                said = match arriving.receive(0, &mut buffers) {
                     Ok(r) => {
                         assert_eq!(r.records().filter(|r| r.is_head() && r.ploamu()).count(), r.replies().len());
                         let bytes = r.deliveries().map(|d| 4 + d.bytes.len()).sum();

@@ -3,3 +3,4 @@ pub mod Widths
 pub mod Determined
 pub mod OneForm
 pub mod Order
+pub mod Lists

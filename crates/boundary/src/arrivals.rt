@@ -53,7 +53,7 @@ fn answer_by(o: Opening) -> u8
 
 // The answer to a frame where what comes back has room for so many numbers and needs so many. A call that has too few asks for it;
 // that the room is tested here again leaves the way of all others as it is without that question (docs/PERFORMANCE.md).
-fn opened(state: &[u8], frame: &[u8], have: usize, need: usize) -> u8
+pub(crate) fn opened(state: &[u8], frame: &[u8], have: usize, need: usize) -> u8
     ensures { λ r. ⌜ r ≡ openedBy (decoded (now (state .entry))) (now (frame .entry)) (leb need have) ⌝ }
 {
     let read = layout::read_state(state);

@@ -3,6 +3,7 @@
 // state to test; the boundary's other buffers (counts, place, key) are answered 3 where 1, and for a frame 2, is not the answer.
 mod arrivals;
 mod states;
+mod stretching;
 mod writers;
 
 pub use arrivals::lingbarrow_frame;
@@ -13,6 +14,7 @@ pub use states::lingbarrow_in_range;
 pub use states::lingbarrow_lost;
 pub use states::lingbarrow_power_on;
 pub use states::lingbarrow_remove_port;
+pub use stretching::lingbarrow_stretches;
 pub use writers::lingbarrow_write_allocation;
 pub use writers::lingbarrow_write_hlend;
 pub use writers::lingbarrow_write_xgem_frame;

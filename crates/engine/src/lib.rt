@@ -21,6 +21,10 @@ pub use stretching::StretchPlace;
 pub use stretching::stretch_place;
 // That part of the frame itself, exactly as long as the SDU, or the empty one.
 pub use stretching::stretch;
+// Where all of them stand, into a lent list. Answers 0 to 6.
+pub use stretching::BYTES_A_NUMBER;
+pub use stretching::StretchPlaces;
+pub use stretching::stretch_places;
 // The host adds a port, in the lowest empty slot. Answers 0, 1, 7, 8 or 9.
 pub use host::add_port;
 // The host removes a port. Answers 0, 1, 7 or 8.

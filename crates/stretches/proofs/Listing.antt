@@ -4,7 +4,7 @@ use mathlib.Core.Path.{_≡_, refl, sym, ap, ap₂, _∙_, subst}
 use mathlib.Core.Bool.{Bool, true, false, cond}
 use mathlib.Core.List.{List, [], _∷_, _++_, append-assoc, append-nil}
 use Prim.Native.Nat.{ℕ, zero, suc, _+_, _-_, _*_, _/_, _≤_, _<_, zero-le}
-use native.Mathlib.Nat.{suc-ne-zero}
+use native.Mathlib.Nat.{suc-ne-zero, le-refl}
 use native.Mathlib.Numerals.{add-one, sub-one}
 use native.Mathlib.Omega.{arith}
 use borrow.Author.Tests.{ne-eqb}
@@ -32,9 +32,11 @@ use Rattle.stretches.specs.declared.Placed.{Placed}
 use Rattle.stretches.specs.declared.StretchPlace.{StretchPlace}
 use Rattle.stretches.specs.declared.headers.Ahead.the-variants as ahead
 use Rattle.stretches.specs.declared.headers.Ahead.the-variants.{Bytes}
+use Rattle.stretches.specs.declared.search.Brought.{Brought}
+use Rattle.stretches.specs.declared.search.Brought.the-variants.{Nothing, Stretch}
 use Rattle.stretches.specs.declared.search.Search.{Search}
 use Rattle.stretches.specs.Stretch.{noExtent, alone, aloneAt, extentsOf, lostIn, stretchOf, numbers, roomIn, Listed, listing, listOf}
-use Rattle.stretches.specs.Search.{Noted, noted, bytesOf}
+use Rattle.stretches.specs.Search.{brought, Noted, noted, bytesOf}
 use Rattle.stretches.proofs.Stretches.{lost-done, lost-lost, lost-next, extents-done, extents-lost, extents-next}
 
 pub length-numbers : (ts : List Extent) → length (numbers ts) ≡ 2 * length ts
@@ -60,7 +62,8 @@ record Run (places₀ : List ℕ) (all : List Extent) (ahead count : ℕ) (place
 
 run-note : (places₀ : List ℕ) (all : List Extent) (ahead count : ℕ) (places : List ℕ) (t : Extent) (rest : List Extent)
     → Run places₀ all ahead count places (t ∷ rest) → count < roomIn places₀
-    → let w = noted ahead count places (t ∷ []) in Run places₀ all (w .search .ahead) (w .search .count) (w .places) rest
+    → let w = noted ahead count places t in Run places₀ all (w .search .ahead) (w .search .count) (w .places) rest
+unfolding noted
 run-note places₀ all zero count places t rest v h =
     record {
       done = v .done ++ (t ∷ []);
@@ -77,14 +80,6 @@ run-note places₀ all zero count places t rest v h =
     more = omega arith
 run-note places₀ all (suc a) count places t rest v h =
     rw (ne-eqb (suc a) 0 (suc-ne-zero a), sub-one (suc a)) (record { done = v .done; so-many = v .so-many; room = v .room; written = v .written; whole = v .whole })
-
-run-on : (places₀ : List ℕ) (all : List Extent) (ahead count : ℕ) (places : List ℕ) (e : Reassembly) (at n : ℕ) (rest : List Extent)
-    → Run places₀ all ahead count places (aloneAt e at n ++ rest) → count < roomIn places₀
-    → let w = noted ahead count places (aloneAt e at n) in Run places₀ all (w .search .ahead) (w .search .count) (w .places) rest
-run-on places₀ all ahead count places Ignored at n rest v h = v
-run-on places₀ all ahead count places (Dropped slot waits) at n rest v h = v
-run-on places₀ all ahead count places (Delivered slot have) at n rest v h = run-note places₀ all ahead count places (alone have at n) rest v h
-run-on places₀ all ahead count places (Appended slot have) at n rest v h = v
 
 -- nothing is still to come
 run-end : (places₀ : List ℕ) (all : List Extent) (ahead count : ℕ) (places : List ℕ) (rest : List Extent) (lost : Bool)
@@ -137,11 +132,11 @@ module _ (own : PortId) (f : List ℕ) (p₀ : Ports) (begins first : ℕ) (plac
   none : extentsOf own p at f ≡ [] → take (roomIn places₀ - s .count) (drop (s .ahead) (extentsOf own p at f)) ≡ []
   none e = ap (λ (l : List Extent). take (roomIn places₀ - s .count) (drop (s .ahead) l)) e ∙ ap (take (roomIn places₀ - s .count)) (drop-nil (s .ahead)) ∙ take-nil (roomIn places₀ - s .count)
 
-  pub seen-done : nextOf (drop at f) ≡ Done → (r : Placed) → r ≡ record { count = s .count; lost = false } → _≡_ {A = Listed} (record { placed = r; places = places }) (listOf own p₀ begins f first places₀)
-  seen-done e = ended false (lost-done f at e) (none (extents-done f at own p e))
+  pub seen-done : (extentsOf own p at f ≡ []) × (lostIn at f ≡ false) → _≡_ {A = Listed} (record { placed = record { count = s .count; lost = false }; places = places }) (listOf own p₀ begins f first places₀)
+  seen-done e = ended false (e .1) (none (e .0)) _ refl
 
-  pub seen-lost : nextOf (drop at f) ≡ Lost → (r : Placed) → r ≡ record { count = s .count; lost = true } → _≡_ {A = Listed} (record { placed = r; places = places }) (listOf own p₀ begins f first places₀)
-  seen-lost e = ended true (lost-lost f at e) (none (extents-lost f at own p e))
+  pub seen-lost : (extentsOf own p at f ≡ []) × (lostIn at f ≡ true) → _≡_ {A = Listed} (record { placed = record { count = s .count; lost = true }; places = places }) (listOf own p₀ begins f first places₀)
+  seen-lost e = ended true (e .1) (none (e .0)) _ refl
 
   -- there is no more room: only whether delineation is lost is still to be seen
   pub seen-full : roomIn places₀ ≤ s .count → (r : Placed) → r ≡ record { count = s .count; lost = lostIn at f } → _≡_ {A = Listed} (record { placed = r; places = places }) (listOf own p₀ begins f first places₀)
@@ -149,26 +144,92 @@ module _ (own : PortId) (f : List ℕ) (p₀ : Ports) (begins first : ℕ) (plac
       let z : roomIn places₀ - s .count ≡ 0 = omega arith in
       ended (lostIn at f) refl (ap (λ (n : ℕ). take n (drop (s .ahead) (extentsOf own p at f))) z)
 
-  pub seen-on : s .count < roomIn places₀ → (x : XgemHeader) → nextOf (drop at f) ≡ Frame x → (p′ : Ports) → let e = reassemblyOf p own (x .port) (x .last) (x .pli) in
-      p′ ≡ portsAfter p e (x .pli) → (s′ : Search) (places′ : List ℕ) → record { search = s′; places = places′ } ≡ noted (s .ahead) (s .count) places (aloneAt e (at + 8) (x .pli))
-      → Seen own f p₀ begins first places₀ p′ s′ (at + 8 + payloadSize (x .pli)) places′
-  seen-on h x n p′ ep s′ places′ es =
-      let e : Reassembly = reassemblyOf p own (x .port) (x .last) (x .pli) in
+  pub seen-on : s .count < roomIn places₀ → (t : Extent) (behind : ℕ) (q : Ports) → length (q .ids) ≡ addedPorts
+      → (extentsOf own p at f ≡ t ∷ extentsOf own q behind f) × (lostIn at f ≡ lostIn behind f) × (at < behind) × (behind ≤ length f)
+      → (s′ : Search) (places′ : List ℕ) → record { search = s′; places = places′ } ≡ noted (s .ahead) (s .count) places t
+      → Seen own f p₀ begins first places₀ q s′ behind places′
+  seen-on h t behind q i n s′ places′ es =
       let all : List Extent = take (roomIn places₀) (drop first (extentsOf own p₀ begins f)) in
-      let size : ℕ = payloadSize (x .pli) in
-      let i = frame-inside (drop at f) x n in
-      let rest : Ports → List Extent = λ (q : Ports). extentsOf own q (at + 8 + size) f in
-      let r : Run places₀ all (s .ahead) (s .count) places (aloneAt e (at + 8) (x .pli) ++ rest (portsAfter p e (x .pli))) =
-      subst (Run places₀ all (s .ahead) (s .count) places) (extents-next f at own p x n e refl) (v .run) in
+      let r : Run places₀ all (s .ahead) (s .count) places (t ∷ extentsOf own q behind f) = subst (Run places₀ all (s .ahead) (s .count) places) (n .0) (v .run) in
       record {
-        inside = omega (arith, v .inside, length-drop at f);
-        ids = ap (λ (q : Ports). length (q .ids)) ep ∙ ap length (ids-after p e (x .pli)) ∙ v .ids;
+        inside = n .3;
+        ids = i;
         run =
-            subst (λ (q : Ports). Run places₀ all (s′ .ahead) (s′ .count) places′ (rest q)) (sym ep)
-            (subst (λ (w : Noted). Run places₀ all (w .search .ahead) (w .search .count) (w .places) (rest (portsAfter p e (x .pli)))) (sym es)
-            (run-on places₀ all (s .ahead) (s .count) places e (at + 8) (x .pli) _ r h));
-        lost = sym (lost-next f at x n) ∙ v .lost;
+            subst (λ (w : Noted). Run places₀ all (w .search .ahead) (w .search .count) (w .places) (extentsOf own q behind f)) (sym es)
+            (run-note places₀ all (s .ahead) (s .count) places t (extentsOf own q behind f) r h);
+        lost = sym (n .1) ∙ v .lost;
       }
+
+-- ---- from frame to frame: none up to here has delivered
+pub record Passed (own : PortId) (f : List ℕ) (p₀ : Ports) (from : ℕ) (p : Ports) (at : ℕ) : Type 0 where
+  pub inside : at ≤ length f
+  pub onward : from ≤ at
+  pub ids : length (p .ids) ≡ addedPorts
+  rest : extentsOf own p at f ≡ extentsOf own p₀ from f
+  lost : lostIn at f ≡ lostIn from f
+
+pub passed-start : (own : PortId) (f : List ℕ) (p : Ports) (from : ℕ) → length (p .ids) ≡ addedPorts → from ≤ length f → Passed own f p from p from
+passed-start own f p from i h = record { inside = h; onward = le-refl from; ids = i; rest = refl; lost = refl }
+
+never : {A : Type 0} → _≡_ {A = ℕ} 0 1 → A
+never z = absurd (omega arith)
+
+was-nothing : (e : Reassembly) (at n : ℕ) → brought (aloneAt e at n) ≡ Nothing → aloneAt e at n ≡ []
+was-nothing Ignored at n q = refl
+was-nothing (Dropped slot waits) at n q = refl
+was-nothing (Delivered slot have) at n q = never cc
+was-nothing (Appended slot have) at n q = refl
+
+was-stretch : (e : Reassembly) (at n : ℕ) (t : Extent) → brought (aloneAt e at n) ≡ Stretch t → aloneAt e at n ≡ t ∷ []
+was-stretch Ignored at n t q = never cc
+was-stretch (Dropped slot waits) at n t q = never cc
+was-stretch (Delivered slot have) at n t q = cc
+was-stretch (Appended slot have) at n t q = never cc
+
+module _ (own : PortId) (f : List ℕ) (p₀ : Ports) (from : ℕ) (p : Ports) (at : ℕ) (v : Passed own f p₀ from p at) where
+  pub passed-done : nextOf (drop at f) ≡ Done → (extentsOf own p₀ from f ≡ []) × (lostIn from f ≡ false)
+  passed-done e = (sym (v .rest) ∙ extents-done f at own p e, sym (v .lost) ∙ lost-done f at e)
+
+  pub passed-lost : nextOf (drop at f) ≡ Lost → (extentsOf own p₀ from f ≡ []) × (lostIn from f ≡ true)
+  passed-lost e = (sym (v .rest) ∙ extents-lost f at own p e, sym (v .lost) ∙ lost-lost f at e)
+
+  module _ (x : XgemHeader) (n : nextOf (drop at f) ≡ Frame x) (q : Ports) (eq : q ≡ portsAfter p (reassemblyOf p own (x .port) (x .last) (x .pli)) (x .pli)) (b : Brought) (eb : b ≡ brought (aloneAt (reassemblyOf p own (x .port) (x .last) (x .pli)) (at + 8) (x .pli))) where
+    abbrev what : Reassembly
+    what = reassemblyOf p own (x .port) (x .last) (x .pli)
+
+    behind : ℕ
+    behind = at + 8 + payloadSize (x .pli)
+
+    inside-behind : behind ≤ length f
+    unfolding behind
+    inside-behind = omega (arith, v .inside, length-drop at f, frame-inside (drop at f) x n)
+
+    by : (ts : List Extent) → aloneAt what (at + 8) (x .pli) ≡ ts → extentsOf own p₀ from f ≡ ts ++ extentsOf own q behind f
+    unfolding behind
+    by ts e =
+        sym (v .rest) ∙ extents-next f at own p x n what refl
+        ∙ ap₂ (λ (l : List Extent) (r : Ports). l ++ extentsOf own r (at + 8 + payloadSize (x .pli)) f) e (sym eq)
+
+    pub passed-on : b ≡ Nothing → Passed own f p₀ from q (at + 8 + payloadSize (x .pli))
+    unfolding behind
+    passed-on e =
+        record {
+          inside = inside-behind;
+          onward = omega (arith, v .onward);
+          ids = ap (λ (r : Ports). length (r .ids)) eq ∙ ap length (ids-after p what (x .pli)) ∙ v .ids;
+          rest = sym (by [] (was-nothing what (at + 8) (x .pli) (sym eb ∙ e)));
+          lost = sym (lost-next f at x n) ∙ v .lost;
+        }
+
+    pub passed-met : (t : Extent) → b ≡ Stretch t
+        → (extentsOf own p₀ from f ≡ t ∷ extentsOf own q (at + 8 + payloadSize (x .pli)) f) × (lostIn from f ≡ lostIn (at + 8 + payloadSize (x .pli)) f) × (from < at + 8 + payloadSize (x .pli)) × (at + 8 + payloadSize (x .pli) ≤ length f)
+    unfolding behind
+    passed-met t e = (
+      by (t ∷ []) (was-stretch what (at + 8) (x .pli) t (sym eb ∙ e)),
+      sym (v .lost) ∙ lost-next f at x n,
+      omega (arith, v .onward),
+      inside-behind,
+    )
 
 -- ---- whether delineation is lost, from a place on
 pub record Behind (f : List ℕ) (begins at : ℕ) : Type 0 where
@@ -176,9 +237,6 @@ pub record Behind (f : List ℕ) (begins at : ℕ) : Type 0 where
   pub lost : lostIn at f ≡ lostIn begins f
 
 -- what its bytes say of the next frame
-never : {A : Type 0} → _≡_ {A = ℕ} 0 1 → A
-never z = absurd (omega arith)
-
 was-done : (n : Next) → bytesOf n ≡ ahead.Done → n ≡ Done
 was-done Done e = refl
 was-done Lost e = never cc
@@ -243,8 +301,8 @@ nothing-behind own f p begins first places h =
     ∙ ap (λ (b : Bool). listing (take (roomIn places) (drop first l)) b places) (sym (lost-done f begins e))
 
 -- what was decided is done
-pub turned : (p : Ports) (d e z : Reassembly) (ahead count : ℕ) (places : List ℕ) (at n : ℕ) (q : Ports) (w : Noted) → e ≡ d → e ≡ z → q ≡ portsAfter p z n → w ≡ noted ahead count places (aloneAt z at n)
-    → (q ≡ portsAfter p d n) × (w ≡ noted ahead count places (aloneAt d at n))
-turned p d e z ahead count places at n q w ed ez eq ew =
+pub turned : (p : Ports) (d e z : Reassembly) (at n : ℕ) (q : Ports) (b : Brought) → e ≡ d → e ≡ z → q ≡ portsAfter p z n → b ≡ brought (aloneAt z at n)
+    → (q ≡ portsAfter p d n) × (b ≡ brought (aloneAt d at n))
+turned p d e z at n q b ed ez eq eb =
     let m : z ≡ d = sym ez ∙ ed in
-    (eq ∙ ap (λ (x : Reassembly). portsAfter p x n) m, ew ∙ ap (λ (x : Reassembly). noted ahead count places (aloneAt x at n)) m)
+    (eq ∙ ap (λ (x : Reassembly). portsAfter p x n) m, eb ∙ ap (λ (x : Reassembly). brought (aloneAt x at n)) m)

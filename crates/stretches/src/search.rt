@@ -1,5 +1,5 @@
-// The search for stretches. Until the last that is wanted each frame is decided of as in the walk; behind it nothing matters but
-// whether delineation is lost.
+// The search for stretches, from delivery to delivery. Up to the last that is wanted each frame is decided of as in the walk; behind it
+// nothing matters but whether delineation is lost.
 ghost use mathlib.Core.Path.{_≡_};
 ghost use mathlib.Core.List.{[], _∷_};
 ghost use Prim.Native.Nat.{_+_, _*_, _≤_};
@@ -8,7 +8,7 @@ ghost use Rattle.ports.specs.Ports.{portsOf};
 ghost use Rattle.fragments.specs.Fragments.{reassemblyIn, portsAfter};
 ghost use Rattle.payload.specs.Memory.{put};
 ghost use Rattle.stretches.specs.Stretch.{alone, aloneAt, numbers, listOf};
-ghost use Rattle.stretches.specs.Search.{noted};
+ghost use Rattle.stretches.specs.Search.{brought, NextDelivery, noted};
 use super::Extent;
 use super::Placed;
 use super::headers;
@@ -20,7 +20,19 @@ use ports::ADDED_PORTS;
 use ports::Ports;
 use ports::SLOTS;
 
-// How far it is: so many deliveries are to be passed over, and so many stretches are listed.
+pub enum Brought {
+    Nothing,
+    Stretch(Extent),
+}
+
+pub enum Delivery {
+    Done,
+    Lost,
+    // its stretch, and where its frame ends
+    Met(Extent, usize),
+}
+
+// So many deliveries are to be passed over, and so many stretches are listed.
 pub struct Search {
     pub ahead: usize,
     pub count: usize,
@@ -35,6 +47,75 @@ fn alone(have: usize, at: usize, n: usize) -> Extent
     Extent { at: 0, bytes: 0 }
 }
 
+// A fragment of n bytes from a place on: what it does to its port, and what it brings.
+fn take(
+    ids: [PortId; ADDED_PORTS],
+    own: PortId,
+    lengths: &mut [u16; SLOTS],
+    waiting: &mut [bool; SLOTS],
+    port: PortId,
+    last: bool,
+    n: u16,
+    at: usize,
+) -> Brought
+    ensures { λ r. ⌜ (portsOf ids (now (lengths .exit)) (now (waiting .exit)) ≡ portsAfter (portsOf ids (now (lengths .entry)) (now (waiting .entry))) (reassemblyIn ids (now (lengths .entry)) (now (waiting .entry)) own port last n) n)
+        × (r ≡ brought (aloneAt (reassemblyIn ids (now (lengths .entry)) (now (waiting .entry)) own port last n) at n)) ⌝ }
+{
+    let what = fragments::reassembly_of(ids, lengths, waiting, own, port, last, n);
+    match what {
+        Reassembly::Ignored => Brought::Nothing,
+        Reassembly::Dropped(slot, waits) => {
+            ports::drop_in(lengths, waiting, slot, waits);
+            Brought::Nothing
+        }
+        Reassembly::Delivered(slot, have) => {
+            ports::deliver_in(lengths, slot);
+            Brought::Stretch(alone(have, at, n as usize))
+        }
+        Reassembly::Appended(slot, have) => {
+            ports::append_in(lengths, slot, (have + n as usize) as u16);
+            Brought::Nothing
+        }
+    }
+}
+
+fn next_delivery(
+    ids: [PortId; ADDED_PORTS],
+    own: PortId,
+    lengths: &mut [u16; SLOTS],
+    waiting: &mut [bool; SLOTS],
+    frame: &[u8],
+    from: usize,
+) -> Delivery
+    requires { ⌜ from ≤ length (now frame) ⌝ }
+    ensures { λ r. ⌜ NextDelivery own (portsOf ids (now (lengths .entry)) (now (waiting .entry))) from (now (frame .entry)) (portsOf ids (now (lengths .exit)) (now (waiting .exit))) r ⌝ }
+{
+    let mut at = from;
+    loop {
+        let next = headers::next_ahead(&frame[at..]);
+        match next {
+            Next::Done => {
+                return Delivery::Done;
+            }
+            Next::Lost => {
+                return Delivery::Lost;
+            }
+            Next::Frame(x) => {
+                let body = at + XGEM_HEADER_BYTES;
+                let port = x.port;
+                let brought = take(ids, own, lengths, waiting, port, x.last, x.pli, body);
+                at = body + xgem::payload_size(x.pli);
+                match brought {
+                    Brought::Nothing => {}
+                    Brought::Stretch(t) => {
+                        return Delivery::Met(t, at);
+                    }
+                }
+            }
+        }
+    }
+}
+
 fn list(places: &mut [usize], i: usize, t: Extent)
     requires { ⌜ i + 2 ≤ length (now places) ⌝ }
     ensures { λ _. ⌜ now (places .exit) ≡ put (now (places .entry)) i (numbers (t ∷ [])) ⌝ }
@@ -45,7 +126,7 @@ fn list(places: &mut [usize], i: usize, t: Extent)
 
 fn note(search: Search, places: &mut [usize], t: Extent) -> Search
     requires { ⌜ 2 * search .count + 2 ≤ length (now places) ⌝ }
-    ensures { λ r. ⌜ record { search = r; places = now (places .exit) } ≡ noted (search .ahead) (search .count) (now (places .entry)) (t ∷ []) ⌝ }
+    ensures { λ r. ⌜ record { search = r; places = now (places .exit) } ≡ noted (search .ahead) (search .count) (now (places .entry)) t ⌝ }
 {
     if search.ahead == 0 {
         list(places, 2 * search.count, t);
@@ -57,41 +138,6 @@ fn note(search: Search, places: &mut [usize], t: Extent) -> Search
     Search {
         ahead: search.ahead - 1,
         count: search.count,
-    }
-}
-
-// A fragment of n bytes from a place on: what it does to its port, and what it delivers.
-fn take(
-    ids: [PortId; ADDED_PORTS],
-    own: PortId,
-    lengths: &mut [u16; SLOTS],
-    waiting: &mut [bool; SLOTS],
-    search: Search,
-    places: &mut [usize],
-    port: PortId,
-    last: bool,
-    n: u16,
-    at: usize,
-) -> Search
-    requires { ⌜ 2 * search .count + 2 ≤ length (now places) ⌝ }
-    ensures { λ r. ⌜ (portsOf ids (now (lengths .exit)) (now (waiting .exit)) ≡ portsAfter (portsOf ids (now (lengths .entry)) (now (waiting .entry))) (reassemblyIn ids (now (lengths .entry)) (now (waiting .entry)) own port last n) n)
-        × (record { search = r; places = now (places .exit) } ≡ noted (search .ahead) (search .count) (now (places .entry)) (aloneAt (reassemblyIn ids (now (lengths .entry)) (now (waiting .entry)) own port last n) at n)) ⌝ }
-{
-    let what = fragments::reassembly_of(ids, lengths, waiting, own, port, last, n);
-    match what {
-        Reassembly::Ignored => search,
-        Reassembly::Dropped(slot, waits) => {
-            ports::drop_in(lengths, waiting, slot, waits);
-            search
-        }
-        Reassembly::Delivered(slot, have) => {
-            ports::deliver_in(lengths, slot);
-            note(search, places, alone(have, at, n as usize))
-        }
-        Reassembly::Appended(slot, have) => {
-            ports::append_in(lengths, slot, (have + n as usize) as u16);
-            search
-        }
     }
 }
 
@@ -116,36 +162,23 @@ pub(crate) fn list_from(
     };
     let mut at = begins;
     while search.count < room {
-        let next = headers::next_ahead(&frame[at..]);
+        let next = next_delivery(ids, own, &mut lengths, &mut waiting, frame, at);
         match next {
-            Next::Done => {
+            Delivery::Done => {
                 return Placed {
                     count: search.count,
                     lost: false,
                 };
             }
-            Next::Lost => {
+            Delivery::Lost => {
                 return Placed {
                     count: search.count,
                     lost: true,
                 };
             }
-            Next::Frame(x) => {
-                let body = at + XGEM_HEADER_BYTES;
-                let port = x.port;
-                search = take(
-                    ids,
-                    own,
-                    &mut lengths,
-                    &mut waiting,
-                    search,
-                    places,
-                    port,
-                    x.last,
-                    x.pli,
-                    body,
-                );
-                at = body + xgem::payload_size(x.pli);
+            Delivery::Met(t, behind) => {
+                search = note(search, places, t);
+                at = behind;
             }
         }
     }
