@@ -27,7 +27,7 @@ use Rattle.layout.specs.Layout.{stateBytes, encoded, decoded, stored}
 use Rattle.layout.specs.Typed.{Typed}
 use Rattle.layout.proofs.RoundTrips.{written-read, read-stored, encoded-length}
 use Rattle.boundary.specs.Calls.{StateLeft, by, asked, keyLeft, lostOn, addOn, removeOn, keyOn, powerOnIn}
-use Rattle.boundary.specs.Frames.{BuffersLeft, countNumbers, afterFrame, frameBy, withoutRoom, frameOn}
+use Rattle.boundary.specs.Frames.{BuffersLeft, countNumbers, afterFrame, frameBy, openedBy, frameOn}
 use Rattle.demands.specs.Engine.{lingbarrow}
 use Rattle.demands.specs.Runs.{Call, Buffers, Progress, lend, runOf}
 use Rattle.demands.specs.Runs as engine
@@ -104,7 +104,7 @@ module _ (b : List ℕ) (room : stateBytes ≤ length b) (first : Station) where
       ap₂ (λ (z : Found Station) (l : Lent). frameBy z (held .state) a counts l) (reads held st k) (lent-same held st k buffers)
 
   frame-along : (held : Held) (st : Progress) → Along b first held st → (a : Arrival) (counts : List ℕ) (buffers : Buffers) → Octets (a .octets) → (r : Bool)
-      → let left = cond {A = BuffersLeft} r (frameBy (decoded (held .state)) (held .state) a counts (lendTo held buffers)) (record { answer = withoutRoom (decoded (held .state)) (a .octets); state = held .state; counts = counts; lent = lendTo held buffers }) in
+      → let left = cond {A = BuffersLeft} r (frameBy (decoded (held .state)) (held .state) a counts (lendTo held buffers)) (record { answer = openedBy (decoded (held .state)) (a .octets) false; state = held .state; counts = counts; lent = lendTo held buffers }) in
       Along b first (record { state = left .state; memory = left .lent .memory }) (engine.run lingbarrow first st (cond r (engine.frame a buffers ∷ []) []))
   frame-along held st k a counts buffers o false = record { kept = k .kept; widths = k .widths; octets = k .octets; memory = k .memory }
   frame-along held st k a counts buffers o true =
