@@ -129,7 +129,7 @@ extern "C" {
 /* Bytes of stack that a call takes at most, its arguments and return address included, as measured on this build by tests/stack,
  * which fails if a call takes more. What the caller's own frames, a signal handler or an interrupt need comes on top. */
 #define LINGBARROW_STACK_POWER_ON 624
-#define LINGBARROW_STACK_FRAME 3816
+#define LINGBARROW_STACK_FRAME 3592
 #define LINGBARROW_STACK_LOST 1584
 #define LINGBARROW_STACK_ADD_PORT 1856
 #define LINGBARROW_STACK_REMOVE_PORT 1856

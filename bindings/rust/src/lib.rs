@@ -123,7 +123,7 @@ pub mod message {
 /// caller's own frames need comes on top.
 pub mod stack {
     pub const POWER_ON: usize = 624;
-    pub const FRAME: usize = 3_816;
+    pub const FRAME: usize = 3_592;
     pub const LOST: usize = 1_584;
     pub const ADD_PORT: usize = 1_856;
     pub const REMOVE_PORT: usize = 1_856;
