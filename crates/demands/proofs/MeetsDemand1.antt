@@ -1,8 +1,8 @@
 -- This engine meets demand 1.
 -- Assumes nothing.
 use Prim.Native.Nat.{ℕ, _≤_}
-use mathlib.Core.Path.{_≡_, refl, sym, subst}
-use mathlib.Core.Bool.{Bool, true, false, not, cond, _&&_}
+use mathlib.Core.Path.{_≡_, _∙_, refl, sym, subst}
+use mathlib.Core.Bool.{Bool, true, false, not, cond, _&&_, true≢false}
 use mathlib.Core.List.{List}
 use lib.Dec.{eqb, leb}
 use lib.ListN.{length}
@@ -20,7 +20,7 @@ use Rattle.ids.specs.declared.PortId.{PortId}
 use Rattle.ids.specs.Ids.{assignablePort}
 use Rattle.answers.specs.declared.Answer.{Answer}
 use Rattle.station.specs.declared.Station.{Station}
-use Rattle.answers.specs.declared.Answer.the-variants.{Done, StateOutOfRange, FrameLengthUnfit, HeaderTooLong, DelineationLost, PortOutOfRange, PortHeldOrNotHeld, SlotsTaken, KeyRefused, NotWritten}
+use Rattle.answers.specs.declared.Answer.the-variants.{Done, StateOutOfRange, FrameLengthUnfit, BufferTooShort, HeaderTooLong, DelineationLost, PortOutOfRange, PortHeldOrNotHeld, SlotsTaken, KeyRefused, NotWritten}
 use Rattle.answers.specs.Answers.{answerNumber}
 use Rattle.station.specs.States.{holdsIdentity, isOperating}
 use Rattle.link.specs.Link.{withKey, installed}
@@ -39,10 +39,11 @@ use Rattle.downstream.specs.Opening.{byHlend, opening}
 use Rattle.downstream.specs.Partitions.{headerEnd, payloadOf}
 use Rattle.engine.specs.Lods.{lostLeft}
 use Rattle.engine.specs.declared.stretching.StretchPlace.{StretchPlace}
-use Rattle.engine.specs.Stretch.{empty, told, placeIn, placeBy, stretchPlace}
+use Rattle.engine.specs.Stretch.{empty, told, placeIn, placeBy, stretchPlace, placesFit, placesBy, stretchPlaces}
+use Rattle.engine.proofs.Each.{each-by}
 use Rattle.engine.proofs.Table.{table, not-short}
 use Rattle.demands.specs.Engine.{lingbarrow}
-use Rattle.demands.specs.Demand1.{PoweredOn, LostRow, AddRow, RemoveRow, KeyRow, Placed, StretchRow, WriteRow, Writes, Demand1}
+use Rattle.demands.specs.Demand1.{PoweredOn, LostRow, AddRow, RemoveRow, KeyRow, Placed, StretchRow, StretchesRow, WriteRow, Writes, Demand1}
 
 powered-on : (serial registration : List ℕ) → PoweredOn serial registration (powerOn serial registration)
 powered-on serial registration =
@@ -155,6 +156,19 @@ module _ (s : Station) (f : List ℕ) (k : ℕ) where
       go true p false q = StretchRow.frame-length-unfit p q refl
       go true p true q = by-hlend p q (readHlend f) refl
 
+stretches-row : (s : Station) (f places : List ℕ) → StretchesRow s f places (stretchPlaces s f places) (answerNumber (stretchPlaces s f places .found .answer))
+unfolding stretchPlaces opening
+stretches-row s f places = go (inRange s) refl (lengthFits (length f)) refl (placesFit f places) refl
+  where
+    go
+        : (a : Bool) → inRange s ≡ a → (b : Bool) → lengthFits (length f) ≡ b → (c : Bool) → placesFit f places ≡ c
+        → let left = placesBy (cond (not a) (Refused StateOutOfRange) (cond (not b) (Refused FrameLengthUnfit) (cond (not c) (Refused BufferTooShort) (byHlend (readHlend f) (length f))))) s f places in
+        StretchesRow s f places left (answerNumber (left .found .answer))
+    go false p b q c r = StretchesRow.each (λ t. absurd (true≢false (sym t ∙ p))) (each-by s f places (Refused StateOutOfRange) (rw p))
+    go true p false q c r = StretchesRow.each (λ t u. absurd (true≢false (sym u ∙ q))) (each-by s f places (Refused FrameLengthUnfit) (rw (p, q)))
+    go true p true q false r = StretchesRow.list-too-short p q r refl
+    go true p true q true r = StretchesRow.each (λ t u. r) (each-by s f places (byHlend (readHlend f) (length f)) (rw (p, q)))
+
 -- ---- the writers
 
 write-row : (fit : Bool) (octets t : List ℕ) → Writes fit octets t (wrote fit octets t)
@@ -176,6 +190,7 @@ meets-demand-1 = record {
   remove = remove-row;
   key = key-row;
   stretch = stretch-row;
+  stretches = stretches-row;
   hlend = λ h t. write-row (hlendFits h) (octets 4 (hlendWord h)) t;
   allocation = λ a t. write-row (allocationFits a) (octets 8 (allocationWord a)) t;
   xgem = λ x t. write-row (xgemFits x) (octets 8 (xgemWord x)) t;

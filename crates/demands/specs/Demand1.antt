@@ -20,7 +20,7 @@ use Rattle.ids.specs.declared.PortId.{PortId}
 use Rattle.ids.specs.Ids.{assignablePort}
 use Rattle.station.specs.declared.Station.{Station}
 use Rattle.station.specs.declared.Activation.the-variants.{Initial}
-use Rattle.answers.specs.declared.Answer.the-variants.{StateOutOfRange, FrameLengthUnfit, HlendUnreadable, HeaderTooLong}
+use Rattle.answers.specs.declared.Answer.the-variants.{StateOutOfRange, FrameLengthUnfit, BufferTooShort, HlendUnreadable, HeaderTooLong}
 use Rattle.answers.specs.Answers.{answerNumber}
 use Rattle.station.specs.States.{holdsIdentity}
 use Rattle.link.specs.declared.Response.the-variants.{Registration}
@@ -39,7 +39,8 @@ use Rattle.downstream.specs.Partitions.{headerEnd, payloadOf}
 use Rattle.station.specs.States.{isOperating}
 use Rattle.engine.specs.Answers.{Row}
 use Rattle.engine.specs.declared.stretching.StretchPlace.{StretchPlace}
-use Rattle.engine.specs.Stretch.{empty, placeIn}
+use Rattle.engine.specs.Stretch.{empty, placeIn, PlacesLeft, noPlaces, placesFit}
+use Rattle.engine.specs.Each.{EachStretch}
 use Rattle.demands.specs.Engine.{Engine}
 
 -- ---- power-on
@@ -123,6 +124,15 @@ pub data StretchRow (s : Station) (f : List ℕ) (k : ℕ) (p : StretchPlace) : 
   header-too-long : NoPlace s f p → StretchRow s f k p 5
   delineation-lost : Placed s f k true p → StretchRow s f k p 6
 
+-- all stretches of a frame: what the call for one gives, entry by entry, where the list has room or the call is refused before; 3 where
+-- the list is too short
+pub data StretchesRow (s : Station) (f places : List ℕ) (left : PlacesLeft) : ℕ → Type 0 where
+  each
+      : (inRange s ≡ true → lengthFits (length f) ≡ true → placesFit f places ≡ true) → EachStretch s f places left
+      → StretchesRow s f places left (answerNumber (left .found .answer))
+  list-too-short
+      : inRange s ≡ true → lengthFits (length f) ≡ true → placesFit f places ≡ false → left ≡ noPlaces BufferTooShort places → StretchesRow s f places left 3
+
 -- the writers: every value fits its field and the target has room; or nothing is changed
 pub data WriteRow (fit : Bool) (octets target left : List ℕ) : ℕ → Type 0 where
   done : fit ≡ true → length octets ≤ length target → left ≡ put target octets → WriteRow fit octets target left 0
@@ -141,6 +151,7 @@ pub record Demand1 (E : Engine) : Type 0 where
   pub remove : (s : Station) (port : PortId) → RemoveRow s port (E .removePort s port .station) (answerNumber (E .removePort s port .answer))
   pub key : (s : Station) (octets : List ℕ) → KeyRow s octets (E .giveKey s octets .station) (answerNumber (E .giveKey s octets .answer))
   pub stretch : (s : Station) (f : List ℕ) (k : ℕ) → StretchRow s f k (E .stretchPlace s f k) (answerNumber (E .stretchPlace s f k .answer))
+  pub stretches : (s : Station) (f places : List ℕ) → StretchesRow s f places (E .stretchPlaces s f places) (answerNumber (E .stretchPlaces s f places .found .answer))
   pub hlend : (h : Hlend) (t : List ℕ) → Writes (hlendFits h) (octets 4 (hlendWord h)) t (E .writers .hlend h t)
   pub allocation : (a : Allocation) (t : List ℕ) → Writes (allocationFits a) (octets 8 (allocationWord a)) t (E .writers .allocation a t)
   pub xgem : (x : XgemHeader) (t : List ℕ) → Writes (xgemFits x) (octets 8 (xgemWord x)) t (E .writers .xgem x t)

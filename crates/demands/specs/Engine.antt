@@ -17,7 +17,7 @@ use Rattle.frame.specs.Given.{Arrival, Lent}
 use Rattle.frame.specs.Frame.{FrameLeft, frameLeft}
 use Rattle.engine.specs.Lods.{lostLeft}
 use Rattle.engine.specs.declared.stretching.StretchPlace.{StretchPlace}
-use Rattle.engine.specs.Stretch.{stretchPlace}
+use Rattle.engine.specs.Stretch.{PlacesLeft, stretchPlace, stretchPlaces}
 
 -- what is written into a lent target
 pub record Writers : Type 0 where
@@ -34,6 +34,7 @@ pub record Engine : Type 0 where
   pub removePort : Station → PortId → Outcome
   pub giveKey : Station → List ℕ → Outcome
   pub stretchPlace : Station → List ℕ → ℕ → StretchPlace
+  pub stretchPlaces : Station → List ℕ → List ℕ → PlacesLeft
   pub writers : Writers
 
 -- this one: each definition is the right side of the public call's contract
@@ -47,6 +48,7 @@ lingbarrow =
       removePort = afterRemove;
       giveKey = afterKey;
       stretchPlace = stretchPlace;
+      stretchPlaces = stretchPlaces;
       writers = record {
         hlend = xgtc-writing.writeHlend;
         allocation = xgtc-writing.writeAllocation;

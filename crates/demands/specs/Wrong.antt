@@ -41,6 +41,7 @@ changed powerOn frame lost writers =
       removePort = lingbarrow .removePort;
       giveKey = lingbarrow .giveKey;
       stretchPlace = lingbarrow .stretchPlace;
+      stretchPlaces = lingbarrow .stretchPlaces;
       writers = writers;
     }
 

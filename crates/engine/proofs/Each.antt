@@ -118,7 +118,7 @@ module _ (s : Station) (f places : List ℕ) where
           rest = put-after places 0 (numbers ts) (2 * length ts) zero-le (omega (arith, length-numbers ts));
         }
 
-  each-by : (o : Opening) → opening s f true ≡ o → EachStretch s f places (placesBy o s f places)
+  pub each-by : (o : Opening) → opening s f true ≡ o → EachStretch s f places (placesBy o s f places)
   each-by (Refused answer) e = none-each answer (Refused answer) e (λ k. refl)
   each-by (Unread answer) e = none-each answer (Unread answer) e (λ k. refl)
   each-by (Opened h) e = opened-each h e
