@@ -126,13 +126,13 @@ pub mod message {
 pub mod stack {
     pub const POWER_ON: usize = 616;
     pub const IN_RANGE: usize = 784;
-    pub const FRAME: usize = 3_800;
+    pub const FRAME: usize = 3_592;
     pub const LOST: usize = 1_584;
     pub const ADD_PORT: usize = 1_856;
     pub const REMOVE_PORT: usize = 1_856;
     pub const GIVE_KEY: usize = 1_584;
-    pub const STRETCH: usize = 1_376;
-    pub const STRETCHES: usize = 1_216;
+    pub const STRETCH: usize = 1_120;
+    pub const STRETCHES: usize = 1_136;
     pub const WRITE_HLEND: usize = 160;
     pub const WRITE_ALLOCATION: usize = 192;
     pub const WRITE_XGEM_FRAME: usize = 208;
