@@ -235,6 +235,9 @@ fn main() {
                             ),
                         ]
                     };
+                    let (mut places, mut count) = ([7usize; 2], [7usize]);
+                    let listed = unsafe { lingbarrow_stretches(s, STATE, f.as_ptr(), 4, places.as_mut_ptr(), 2, count.as_mut_ptr(), 1) };
+                    assert_eq!((listed, places, count), (1, [7; 2], [0]), "a state out of range: all stretches");
                     let again = |call: fn(&mut Station) -> xgpon_peer::Answer| {
                         let mut s = other.clone();
                         let answer = call(&mut s).number();

@@ -128,8 +128,8 @@ pub mod stack {
     pub const ADD_PORT: usize = 1_856;
     pub const REMOVE_PORT: usize = 1_856;
     pub const GIVE_KEY: usize = 1_600;
-    pub const STRETCH: usize = 1_216;
-    pub const STRETCHES: usize = 1_216;
+    pub const STRETCH: usize = 896;
+    pub const STRETCHES: usize = 1_136;
     pub const WRITE_HLEND: usize = 160;
     pub const WRITE_ALLOCATION: usize = 192;
     pub const WRITE_XGEM_FRAME: usize = 208;

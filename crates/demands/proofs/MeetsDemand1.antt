@@ -4,7 +4,7 @@ use Prim.Native.Nat.{ℕ, _≤_}
 use mathlib.Core.Path.{_≡_, refl, sym, subst}
 use mathlib.Core.Bool.{Bool, true, false, not, cond, _&&_}
 use mathlib.Core.List.{List}
-use lib.Dec.{eqb, leb}
+use lib.Dec.{leb}
 use lib.ListN.{length}
 use borrow.Author.Tests.{leb-true, leb-false}
 use Rattle.ids.specs.Ids.{managementPort}
@@ -21,7 +21,7 @@ use Rattle.ids.specs.declared.PortId.{PortId}
 use Rattle.ids.specs.Ids.{assignablePort}
 use Rattle.station.specs.declared.answers.Answer.{Answer}
 use Rattle.station.specs.declared.Station.{Station}
-use Rattle.station.specs.declared.answers.Answer.the-variants.{Done, StateOutOfRange, FrameLengthUnfit, HeaderTooLong, DelineationLost, PortOutOfRange, PortHeldOrNotHeld, SlotsTaken, KeyRefused}
+use Rattle.station.specs.declared.answers.Answer.the-variants.{Done, StateOutOfRange, FrameLengthUnfit, BufferTooShort, HeaderTooLong, DelineationLost, PortOutOfRange, PortHeldOrNotHeld, SlotsTaken, KeyRefused}
 use Rattle.station.specs.States.{holdsIdentity, isOperating}
 use Rattle.link.specs.Link.{withKey, installed}
 use Rattle.ports.specs.Ports.{portPlace, vacancy, addPort, removePort}
@@ -32,17 +32,18 @@ use Rattle.station.specs.declared.answers.Outcome.{Outcome}
 use Rattle.ids.specs.Places.{isHeld}
 use Rattle.host.specs.Host.{outcome, answerToAdd, answerToRemove, answerToKey, afterAdd, afterRemove, afterKey}
 use Rattle.payload.specs.Frames.{parse}
-use Rattle.stretches.specs.Stretch.{lostIn, stretchOf}
+use Rattle.stretches.specs.Stretch.{extentsOf, lostIn, stretchOf}
 use Rattle.downstream.specs.declared.Opening.the-variants.{Refused, Unread, Opened}
 use Rattle.downstream.specs.Lengths.{lengthFits}
 use Rattle.downstream.specs.Opening.{byHlend, opening}
 use Rattle.downstream.specs.Partitions.{headerEnd, payloadOf}
 use Rattle.engine.specs.Lods.{lostLeft}
 use Rattle.engine.specs.declared.stretching.StretchPlace.{StretchPlace}
-use Rattle.engine.specs.Stretch.{empty, told, placeIn, placeBy, stretchPlace}
+use Rattle.engine.specs.Stretch.{empty, told, placeIn, placeBy, stretchPlace, PlacesLeft, noPlaces, allPlaces, placesIn, placesFit, placesBy, stretchPlaces}
 use Rattle.engine.proofs.Table.{table, not-short}
+use Rattle.engine.proofs.Each.{all-each}
 use Rattle.demands.specs.Engine.{lingbarrow}
-use Rattle.demands.specs.Demand1.{LostRow, AddRow, RemoveRow, KeyRow, Placed, StretchRow, WriteRow, Demand1}
+use Rattle.demands.specs.Demand1.{LostRow, AddRow, RemoveRow, KeyRow, Placed, StretchRow, Listed, StretchesRow, WriteRow, Demand1}
 
 lost-row : (s : Station) → LostRow s (lostLeft s .answer) (lostLeft s .station)
 unfolding lostLeft
@@ -138,6 +139,53 @@ module _ (s : Station) (f : List ℕ) (k : ℕ) where
       go true p false q = (p, q, refl)
       go true p true q = by-hlend p q (readHlend f) refl
 
+-- ---- all stretches
+
+places-answer : (s : Station) (h : Hlend) (f places : List ℕ) → placesIn s h f places .found .answer ≡ cond (isOperating (s .activation) && parse (headerEnd h) (payloadOf h f) .lost) DelineationLost Done
+unfolding placesIn lostIn
+places-answer s h f places = go (isOperating (s .activation))
+  where
+    go : (b : Bool) → cond {A = PlacesLeft} b (allPlaces (extentsOf (managementPort (s .link .onu)) (s .ports) (headerEnd h) f) (lostIn (headerEnd h) f) places) (noPlaces Done places) .found .answer ≡ cond (b && parse (headerEnd h) (payloadOf h f) .lost) DelineationLost Done
+    go true = refl
+    go false = refl
+
+module _ (s : Station) (f places : List ℕ) where
+  abbrev StretchesRowed : PlacesLeft → Type 0
+  StretchesRowed left = StretchesRow s f places (left .found .answer) left
+
+  module _ (a : inRange s ≡ true) (b : lengthFits (length f) ≡ true) (r : placesFit f places ≡ true) where
+    listed-row : (h : Hlend) → readHlend f ≡ fields h → headerEnd h ≤ length f → StretchesRowed (placesIn s h f places)
+    listed-row h e fits =
+        subst (λ (x : Answer). StretchesRow s f places x (placesIn s h f places)) (sym (places-answer s h f places)) (go (isOperating (s .activation) && parse (headerEnd h) (payloadOf h f) .lost) refl)
+      where
+        whole : (l : Bool) → (isOperating (s .activation) && parse (headerEnd h) (payloadOf h f) .lost) ≡ l → Listed s f places l (placesIn s h f places)
+        whole l q = record { state = a; frame = b; room = r; hlend = h; reads = e; fits = fits; delineation = q; list = refl }
+
+        go : (l : Bool) → (isOperating (s .activation) && parse (headerEnd h) (payloadOf h f) .lost) ≡ l → StretchesRow s f places (cond l DelineationLost Done) (placesIn s h f places)
+        go true q = whole true q
+        go false q = whole false q
+
+    list-by-hlend : (x : Found Hlend) → readHlend f ≡ x → StretchesRowed (placesBy (byHlend x (length f)) s f places)
+    list-by-hlend unreadable e = (a, b, r, e, refl)
+    list-by-hlend short e = absurd (not-short f b e)
+    list-by-hlend (fields h) e = go (leb (headerEnd h) (length f)) refl
+      where
+        go : (c : Bool) → leb (headerEnd h) (length f) ≡ c → StretchesRowed (placesBy (cond c (Opened h) (Unread HeaderTooLong)) s f places)
+        go true q = listed-row h e (leb-true (headerEnd h) (length f) q)
+        go false q = record { state = a; frame = b; room = r; hlend = h; reads = e; longer = leb-false (headerEnd h) (length f) q; list = refl }
+
+  stretches-row : StretchesRowed (stretchPlaces s f places)
+  unfolding stretchPlaces opening
+  stretches-row = go (inRange s) refl (lengthFits (length f)) refl (placesFit f places) refl
+    where
+      go
+          : (a : Bool) → inRange s ≡ a → (b : Bool) → lengthFits (length f) ≡ b → (c : Bool) → placesFit f places ≡ c
+          → StretchesRowed (placesBy (cond (not a) (Refused StateOutOfRange) (cond (not b) (Refused FrameLengthUnfit) (cond (not c) (Refused BufferTooShort) (byHlend (readHlend f) (length f))))) s f places)
+      go false p b q c r = (p, refl)
+      go true p false q c r = (p, q, refl)
+      go true p true q false r = (p, q, r, refl)
+      go true p true q true r = list-by-hlend p q r (readHlend f) refl
+
 -- ---- the writers
 
 write-row : (fit : Bool) (octets t : List ℕ) → WriteRow fit octets t (wrote fit octets t .answer) (wrote fit octets t .target)
@@ -159,6 +207,8 @@ meets-demand-1 = record {
   remove = remove-row;
   key = key-row;
   stretch = stretch-row;
+  stretches = stretches-row;
+  each = all-each;
   hlend = λ h t. write-row (hlendFits h) (octets 4 (hlendWord h)) t;
   allocation = λ a t. write-row (allocationFits a) (octets 8 (allocationWord a)) t;
   xgem = λ x t. write-row (xgemFits x) (octets 8 (xgemWord x)) t;

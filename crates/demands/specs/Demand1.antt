@@ -38,7 +38,8 @@ use Rattle.downstream.specs.Partitions.{headerEnd, payloadOf}
 use Rattle.station.specs.States.{isOperating}
 use Rattle.engine.specs.Answers.{Row}
 use Rattle.engine.specs.declared.stretching.StretchPlace.{StretchPlace}
-use Rattle.engine.specs.Stretch.{empty, placeIn}
+use Rattle.engine.specs.Stretch.{empty, placeIn, PlacesLeft, noPlaces, placesIn, placesFit}
+use Rattle.engine.specs.Each.{EachStretch}
 use Rattle.demands.specs.Engine.{Engine}
 
 -- the lost frame time: 0, or 1 with nothing changed
@@ -141,6 +142,42 @@ StretchRow s f k SlotsTaken p = ⊥
 StretchRow s f k KeyRefused p = ⊥
 StretchRow s f k NotWritten p = ⊥
 
+-- all stretches of a frame, into a lent list: the frame call's numbers, where 3 is about the list, which is unchanged after 1 to 5
+pub record Listed (s : Station) (f places : List ℕ) (lost : Bool) (left : PlacesLeft) : Type 0 where
+  pub state : inRange s ≡ true
+  pub frame : lengthFits (length f) ≡ true
+  pub room : placesFit f places ≡ true
+  pub hlend : Hlend
+  pub reads : readHlend f ≡ fields hlend
+  pub fits : headerEnd hlend ≤ length f
+  pub delineation : (isOperating (s .activation) && parse (headerEnd hlend) (payloadOf hlend f) .lost) ≡ lost
+  pub list : left ≡ placesIn s hlend f places
+
+pub record NoList (s : Station) (f places : List ℕ) (left : PlacesLeft) : Type 0 where
+  pub state : inRange s ≡ true
+  pub frame : lengthFits (length f) ≡ true
+  pub room : placesFit f places ≡ true
+  pub hlend : Hlend
+  pub reads : readHlend f ≡ fields hlend
+  pub longer : length f < headerEnd hlend
+  pub list : left ≡ noPlaces HeaderTooLong places
+
+abbrev pub StretchesRow : Station → List ℕ → List ℕ → Answer → PlacesLeft → Type 0
+StretchesRow s f places Done left = Listed s f places false left
+StretchesRow s f places StateOutOfRange left = (inRange s ≡ false) × (left ≡ noPlaces StateOutOfRange places)
+StretchesRow s f places FrameLengthUnfit left = (inRange s ≡ true) × (lengthFits (length f) ≡ false) × (left ≡ noPlaces FrameLengthUnfit places)
+StretchesRow s f places BufferTooShort left =
+    (inRange s ≡ true) × (lengthFits (length f) ≡ true) × (placesFit f places ≡ false) × (left ≡ noPlaces BufferTooShort places)
+StretchesRow s f places HlendUnreadable left =
+    (inRange s ≡ true) × (lengthFits (length f) ≡ true) × (placesFit f places ≡ true) × (readHlend f ≡ unreadable) × (left ≡ noPlaces HlendUnreadable places)
+StretchesRow s f places HeaderTooLong left = NoList s f places left
+StretchesRow s f places DelineationLost left = Listed s f places true left
+StretchesRow s f places PortOutOfRange left = ⊥
+StretchesRow s f places PortHeldOrNotHeld left = ⊥
+StretchesRow s f places SlotsTaken left = ⊥
+StretchesRow s f places KeyRefused left = ⊥
+StretchesRow s f places NotWritten left = ⊥
+
 -- the writers: 0 where every value fits its field and the target has room, and 11 with nothing changed where not
 abbrev pub WriteRow : Bool → List ℕ → List ℕ → Written → List ℕ → Type 0
 WriteRow fit octets target WriteDone left = (fit ≡ true) × (leb (length octets) (length target) ≡ true) × (left ≡ put target octets)
@@ -153,6 +190,10 @@ pub record Demand1 (E : Engine) : Type 0 where
   pub remove : (s : Station) (port : PortId) → RemoveRow s port (E .removePort s port .answer) (E .removePort s port .station)
   pub key : (s : Station) (octets : List ℕ) → KeyRow s octets (E .giveKey s octets .answer) (E .giveKey s octets .station)
   pub stretch : (s : Station) (f : List ℕ) (k : ℕ) → StretchRow s f k (E .stretchPlace s f k .answer) (E .stretchPlace s f k)
+  pub stretches : (s : Station) (f places : List ℕ) → StretchesRow s f places (E .stretchPlaces s f places .found .answer) (E .stretchPlaces s f places)
+  -- all stretches are each of them
+  pub each : (s : Station) (f places : List ℕ) → (E .stretchPlaces s f places .found .answer ≡ BufferTooShort → ⊥)
+      → EachStretch (E .stretchPlace s f) places (E .stretchPlaces s f places)
   pub hlend : (h : Hlend) (t : List ℕ) → WriteRow (hlendFits h) (octets 4 (hlendWord h)) t (E .writeHlend h t .answer) (E .writeHlend h t .target)
   pub allocation : (a : Allocation) (t : List ℕ)
       → WriteRow (allocationFits a) (octets 8 (allocationWord a)) t (E .writeAllocation a t .answer) (E .writeAllocation a t .target)

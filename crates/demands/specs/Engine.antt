@@ -17,7 +17,7 @@ use Rattle.frame.specs.Given.{Arrival, Lent}
 use Rattle.frame.specs.Frame.{FrameLeft, frameLeft}
 use Rattle.engine.specs.Lods.{lostLeft}
 use Rattle.engine.specs.declared.stretching.StretchPlace.{StretchPlace}
-use Rattle.engine.specs.Stretch.{stretchPlace}
+use Rattle.engine.specs.Stretch.{stretchPlace, PlacesLeft, stretchPlaces}
 
 pub record Engine : Type 0 where
   pub powerOn : List ℕ → List ℕ → Station
@@ -27,6 +27,7 @@ pub record Engine : Type 0 where
   pub removePort : Station → PortId → Outcome
   pub giveKey : Station → List ℕ → Outcome
   pub stretchPlace : Station → List ℕ → ℕ → StretchPlace
+  pub stretchPlaces : Station → List ℕ → List ℕ → PlacesLeft
   pub writeHlend : Hlend → List ℕ → writing.WriteLeft
   pub writeAllocation : Allocation → List ℕ → writing.WriteLeft
   pub writeXgem : XgemHeader → List ℕ → writing.WriteLeft
@@ -43,6 +44,7 @@ lingbarrow =
       removePort = afterRemove;
       giveKey = afterKey;
       stretchPlace = stretchPlace;
+      stretchPlaces = stretchPlaces;
       writeHlend = xgtc-writing.writeHlend;
       writeAllocation = xgtc-writing.writeAllocation;
       writeXgem = writing.writeXgem;

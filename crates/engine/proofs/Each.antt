@@ -73,7 +73,7 @@ past (t ∷ ts) (suc k) h = past ts k (le-of-suc-le-suc h)
 
 module _ (s : Station) (f places : List ℕ) where
   -- nothing is listed, and each is empty
-  none-each : (answer : Answer) (o : Opening) → opening s f true ≡ o → ((k : ℕ) → placeBy o s f k ≡ empty answer) → EachStretch s f places (noPlaces answer places)
+  none-each : (answer : Answer) (o : Opening) → opening s f true ≡ o → ((k : ℕ) → placeBy o s f k ≡ empty answer) → EachStretch (stretchPlace s f) places (noPlaces answer places)
   unfolding stretchPlace
   none-each answer o e each = record {
     entries = λ k h. absurd (not-suc-le-zero h);
@@ -106,11 +106,11 @@ module _ (s : Station) (f places : List ℕ) where
         let i = entry ts (drop (0 + length (numbers ts)) places) k l in
         λ j. by (sym (i .0) j) (sym (i .1) j)
 
-    opened-each : EachStretch s f places (placesIn s h f places)
+    opened-each : EachStretch (stretchPlace s f) places (placesIn s h f places)
     unfolding placesIn
     opened-each = go (isOperating (s .activation)) refl
       where
-        go : (b : Bool) → isOperating (s .activation) ≡ b → EachStretch s f places (cond b (allPlaces ts (lostIn (headerEnd h) f) places) (noPlaces Done places))
+        go : (b : Bool) → isOperating (s .activation) ≡ b → EachStretch (stretchPlace s f) places (cond b (allPlaces ts (lostIn (headerEnd h) f) places) (noPlaces Done places))
         go false o = none-each Done (Opened h) e (not-operating o)
         go true o = record {
           entries = λ k l. single k ∙ found o k ∙ listed-at k l;
@@ -118,20 +118,20 @@ module _ (s : Station) (f places : List ℕ) where
           rest = put-after places 0 (numbers ts) (2 * length ts) zero-le (omega (arith, length-numbers ts));
         }
 
-  each-by : (o : Opening) → opening s f true ≡ o → EachStretch s f places (placesBy o s f places)
+  each-by : (o : Opening) → opening s f true ≡ o → EachStretch (stretchPlace s f) places (placesBy o s f places)
   each-by (Refused answer) e = none-each answer (Refused answer) e (λ k. refl)
   each-by (Unread answer) e = none-each answer (Unread answer) e (λ k. refl)
   each-by (Opened h) e = opened-each h e
 
   -- wherever the list has room, or something else refuses the call before
-  pub all-each : (stretchPlaces s f places .found .answer ≡ BufferTooShort → ⊥) → EachStretch s f places (stretchPlaces s f places)
+  pub all-each : (stretchPlaces s f places .found .answer ≡ BufferTooShort → ⊥) → EachStretch (stretchPlace s f) places (stretchPlaces s f places)
   unfolding stretchPlaces opening
   all-each = go (inRange s) refl (lengthFits (length f)) refl (placesFit f places)
     where
       go
           : (a : Bool) → inRange s ≡ a → (b : Bool) → lengthFits (length f) ≡ b → (c : Bool)
           → let o = cond (not a) (Refused StateOutOfRange) (cond (not b) (Refused FrameLengthUnfit) (cond (not c) (Refused BufferTooShort) (byHlend (readHlend f) (length f)))) in
-          (placesBy o s f places .found .answer ≡ BufferTooShort → ⊥) → EachStretch s f places (placesBy o s f places)
+          (placesBy o s f places .found .answer ≡ BufferTooShort → ⊥) → EachStretch (stretchPlace s f) places (placesBy o s f places)
       go false p b q c n = each-by (Refused StateOutOfRange) (rw p)
       go true p false q c n = each-by (Refused FrameLengthUnfit) (rw (p, q))
       go true p true q false n = absurd (n refl)
