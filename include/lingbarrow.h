@@ -2,12 +2,12 @@
  *
  * A station's run: lingbarrow_power_on once; then for each frame time of 125 us lingbarrow_frame, or lingbarrow_lost; ports and the key
  * at any time between. Each call gets the state and the port memory as the last one left them: they are the station's own.
- * A stretch of a frame is asked for BEFORE that frame's lingbarrow_frame: see lingbarrow_stretch.
+ * A stretch of a frame is asked for BEFORE that frame's lingbarrow_frame: see lingbarrow_stretch, lingbarrow_stretches.
  *
  * Every call answers for every content of every buffer: nothing that the bytes or the lengths say is undefined behaviour. What
  * C must grant, and no code can test:
  *   - no pointer is null, also where its length is 0, and each points to as many elements as its length says;
- *   - `plan` is aligned to 2 bytes, `counts` and `place` to that of size_t;
+ *   - `plan` is aligned to 2 bytes, `counts`, `place` and `places` to that of size_t;
  *   - no two buffers of one call overlap.
  * No call keeps a pointer, allocates, or has state of its own: calls on different buffers may run at the same time.
  *
@@ -27,9 +27,9 @@
 #error "Lingbarrow is code for 64-bit x86-64 Linux; define LINGBARROW_ANY_TARGET to check syntax for another target"
 #endif
 
-#define LINGBARROW_VERSION "0.2.0"
+#define LINGBARROW_VERSION "0.3.0"
 #define LINGBARROW_VERSION_MAJOR 0
-#define LINGBARROW_VERSION_MINOR 2
+#define LINGBARROW_VERSION_MINOR 3
 #define LINGBARROW_VERSION_PATCH 0
 
 #ifdef __cplusplus
@@ -37,7 +37,7 @@ extern "C" {
 #endif
 
 /* Lengths of the lent buffers: what is shorter is answered 3, what is longer is not touched past its length. */
-#define LINGBARROW_STATE_BYTES (LINGBARROW_AT_RESERVED + 1) /* 208 */
+#define LINGBARROW_STATE_BYTES (LINGBARROW_AT_CARRIED + 2) /* 208 */
 #define LINGBARROW_SERIAL_BYTES 8
 #define LINGBARROW_REGISTRATION_BYTES 36
 #define LINGBARROW_KEY_BYTES 16
@@ -47,6 +47,8 @@ extern "C" {
 #define LINGBARROW_DELIVERY_BYTES(frame_bytes) ((size_t)(frame_bytes) + LINGBARROW_MEMORY_BYTES)
 #define LINGBARROW_COUNTS 3
 #define LINGBARROW_PLACE 2
+#define LINGBARROW_PLACES(frame_bytes) ((size_t)(frame_bytes) / 8) /* of all stretches: an SDU takes 16 bytes of the frame at least, and two numbers */
+#define LINGBARROW_STRETCH_COUNTS 1
 #define LINGBARROW_FRAME_MOST 135432  /* a frame has 4 bytes to so many, a multiple of 4 */
 #define LINGBARROW_DELAY_MOST 119439  /* bit times, 48 us: a longer random delay counts as this */
 
@@ -83,7 +85,9 @@ extern "C" {
 #define LINGBARROW_O6 6
 #define LINGBARROW_O7 7
 
-/* Answers. After 1, 2, 3 and 7 to 11 nothing is changed, except that the frame call and the stretch set their numbers to 0. */
+/* Answers, tested in the order of the numbers: of all that is wrong the lowest number is answered. Only a state that is too short is
+ * answered 3 before all else: there are no bytes to test. After 1, 2, 3 and 7 to 11 nothing is changed, except that the frame call and
+ * the stretches set their numbers to 0 where these have room. */
 #define LINGBARROW_DONE 0
 #define LINGBARROW_STATE_OUT_OF_RANGE 1 /* also: bytes that are no state's */
 #define LINGBARROW_FRAME_LENGTH 2
@@ -101,14 +105,19 @@ extern "C" {
  * that saving it takes. Save and restore it with the port memory of the same station and moment: unfinished SDUs stand there. A
  * state holds secrets, the Registration ID and the key: who may read or save a state may read them.
  *
- * At most so many are held, and a state has room for as many: */
+ * Its first byte is the version of this form. Bytes of another version, or of a library that had none, are no state's and answered 1:
+ * lingbarrow_in_range says so of a state that was saved, before anything is done with it. */
+#define LINGBARROW_STATE_VERSION 8
+
+/* At most so many are held, and a state has room for as many: */
 #define LINGBARROW_ADDED_ALLOCS 16 /* added Alloc-IDs */
 #define LINGBARROW_MOST_OWED 8     /* answers owed */
 #define LINGBARROW_ADDED_PORTS 16  /* added ports */
 #define LINGBARROW_SLOTS 17        /* slots of port memory: of the management port, and of each added port */
 
 /* Where each field stands: where the one before it does, plus that one's bytes. */
-#define LINGBARROW_AT_STATE 0                                                               /* 1: LINGBARROW_O1 to LINGBARROW_O7 */
+#define LINGBARROW_AT_VERSION 0                                                             /* 1: LINGBARROW_STATE_VERSION */
+#define LINGBARROW_AT_STATE (LINGBARROW_AT_VERSION + 1)                                     /* 1: LINGBARROW_O1 to LINGBARROW_O7 */
 #define LINGBARROW_AT_TIME (LINGBARROW_AT_STATE + 1)                                        /* 4: frame times left of TO1 in O4, of TO2 in O6 */
 #define LINGBARROW_AT_SERIAL (LINGBARROW_AT_TIME + 4)                                       /* 8 */
 #define LINGBARROW_AT_REGISTRATION (LINGBARROW_AT_SERIAL + LINGBARROW_SERIAL_BYTES)         /* 36: secret */
@@ -124,17 +133,18 @@ extern "C" {
 #define LINGBARROW_AT_PARTIALS (LINGBARROW_AT_PORT_IDS + 2 * LINGBARROW_ADDED_PORTS)        /* 2 each: bytes of the slot's unfinished SDU */
 #define LINGBARROW_AT_WAITING (LINGBARROW_AT_PARTIALS + 2 * LINGBARROW_SLOTS)               /* 1 each: 1 while the slot's port waits, else 0 */
 #define LINGBARROW_AT_CARRIED (LINGBARROW_AT_WAITING + LINGBARROW_SLOTS)                    /* 2: words that the last burst takes of the next frame */
-#define LINGBARROW_AT_RESERVED (LINGBARROW_AT_CARRIED + 2)                                  /* 1: 0 */
 
 /* Bytes of stack that a call takes at most, its arguments and return address included, as measured on this build by tests/stack,
  * which fails if a call takes more. What the caller's own frames, a signal handler or an interrupt need comes on top. */
-#define LINGBARROW_STACK_POWER_ON 624
-#define LINGBARROW_STACK_FRAME 3816
+#define LINGBARROW_STACK_POWER_ON 616
+#define LINGBARROW_STACK_IN_RANGE 784
+#define LINGBARROW_STACK_FRAME 3592
 #define LINGBARROW_STACK_LOST 1584
 #define LINGBARROW_STACK_ADD_PORT 1856
 #define LINGBARROW_STACK_REMOVE_PORT 1856
-#define LINGBARROW_STACK_GIVE_KEY 1600
-#define LINGBARROW_STACK_STRETCH 1216
+#define LINGBARROW_STACK_GIVE_KEY 1584
+#define LINGBARROW_STACK_STRETCH 1120
+#define LINGBARROW_STACK_STRETCHES 1136
 #define LINGBARROW_STACK_WRITE_HLEND 160
 #define LINGBARROW_STACK_WRITE_ALLOCATION 192
 #define LINGBARROW_STACK_WRITE_XGEM_FRAME 208
@@ -142,6 +152,10 @@ extern "C" {
 /* A station in O1 with nothing held. 0, or 3 and nothing is changed. The port memory may hold anything. */
 uint8_t lingbarrow_power_on(uint8_t *state, size_t state_length, const uint8_t *serial, size_t serial_length,
                             const uint8_t *registration, size_t registration_length);
+
+/* Whether these bytes are a state in range, as one that was saved and is to be restored must be: 0. 1 for bytes that are no state's of
+ * this version and for a state out of range, to which every other call on a state answers 1 too; 3 for fewer than LINGBARROW_STATE_BYTES. */
+uint8_t lingbarrow_in_range(const uint8_t *state, size_t state_length);
 
 /* Where SDU number k (from 0) of a frame's deliveries stands unfragmented in the frame: `place` gets offset and length, both 0
  * where it does not. 0 to 6; 3 is about `state` and `place`.
@@ -151,6 +165,13 @@ uint8_t lingbarrow_power_on(uint8_t *state, size_t state_length, const uint8_t *
  * for all stretches of a frame before its lingbarrow_frame, or of a copy of the state that was taken before it. */
 uint8_t lingbarrow_stretch(const uint8_t *state, size_t state_length, const uint8_t *frame, size_t frame_length, size_t k,
                            size_t *place, size_t place_length);
+
+/* All stretches of a frame in one call: `places` gets offset and length of each delivery, one after the other, as lingbarrow_stretch
+ * gives them for each k, and `counts` how many deliveries there are, those that stand in no piece included. 0 to 6; 3 is about
+ * `state`, `places` and `counts`. After 1 to 5 `places` is as it was and the count 0; past what is written `places` is as it was.
+ * BEFORE the frame call too. */
+uint8_t lingbarrow_stretches(const uint8_t *state, size_t state_length, const uint8_t *frame, size_t frame_length,
+                             size_t *places, size_t places_length, size_t *counts, size_t counts_length);
 
 /* A frame has arrived, descrambled and error-corrected, and without PSBd: its first byte is HLend's. 0 to 6.
  *
@@ -181,13 +202,14 @@ uint8_t lingbarrow_remove_port(uint8_t *state, size_t state_length, uint16_t por
 /* The PLOAM integrity key: taken in O4, O5 and O6. 0, 1, 3 or 10. */
 uint8_t lingbarrow_give_key(uint8_t *state, size_t state_length, const uint8_t *key, size_t key_length);
 
-/* The writers: 0, or 11 and nothing is changed. Marks are 0 or 1; other values are too wide. An XGEM frame is header, SDU and
- * padding, and its PLI is the SDU's length. Called by their names, the second and third take a lingbarrow_alloc_id and a
- * lingbarrow_port_id. */
-uint8_t lingbarrow_write_hlend(uint16_t bwmap, uint8_t ploam, uint8_t *target, size_t target_length);
-uint8_t lingbarrow_write_allocation(uint16_t alloc, uint8_t dbru, uint8_t ploamu, uint16_t start, uint16_t grant,
-                                    uint8_t fwi, uint8_t profile, uint8_t *target, size_t target_length);
-uint8_t lingbarrow_write_xgem_frame(uint8_t key, uint16_t port, uint32_t options, uint8_t last, const uint8_t *sdu,
+/* The writers: 0, or 11 and nothing is changed. Every number has 32 bits, so that one too wide for its field is answered 11 and not cut
+ * to it: 256 messages are too many, and not none. Bits of the fields: BWmap length 11, PLOAM count 8; Alloc-ID 14, StartTime 16,
+ * GrantSize 16, burst profile 2; key index 2, Port-ID 16, options 18; marks 1. An XGEM frame is header, SDU and padding; its PLI, 14 bits,
+ * is the SDU's length. Called by their names, the second and third take a lingbarrow_alloc_id and a lingbarrow_port_id. */
+uint8_t lingbarrow_write_hlend(uint32_t bwmap, uint32_t ploam, uint8_t *target, size_t target_length);
+uint8_t lingbarrow_write_allocation(uint32_t alloc, uint32_t dbru, uint32_t ploamu, uint32_t start, uint32_t grant,
+                                    uint32_t fwi, uint32_t profile, uint8_t *target, size_t target_length);
+uint8_t lingbarrow_write_xgem_frame(uint32_t key, uint32_t port, uint32_t options, uint32_t last, const uint8_t *sdu,
                                     size_t sdu_length, uint8_t *target, size_t target_length);
 
 /* The three identifiers. They often carry one and the same number, so that a wrong kind would work until it does not. */
@@ -285,14 +307,14 @@ static inline uint8_t lingbarrow_remove_port_id(uint8_t *state, size_t state_len
     return lingbarrow_remove_port(state, state_length, port.number);
 }
 
-static inline uint8_t lingbarrow_write_allocation_to(lingbarrow_alloc_id alloc, uint8_t dbru, uint8_t ploamu, uint16_t start,
-                                                     uint16_t grant, uint8_t fwi, uint8_t profile, uint8_t *target,
+static inline uint8_t lingbarrow_write_allocation_to(lingbarrow_alloc_id alloc, uint32_t dbru, uint32_t ploamu, uint32_t start,
+                                                     uint32_t grant, uint32_t fwi, uint32_t profile, uint8_t *target,
                                                      size_t target_length)
 {
     return lingbarrow_write_allocation(alloc.number, dbru, ploamu, start, grant, fwi, profile, target, target_length);
 }
 
-static inline uint8_t lingbarrow_write_xgem_frame_to(uint8_t key, lingbarrow_port_id port, uint32_t options, uint8_t last,
+static inline uint8_t lingbarrow_write_xgem_frame_to(uint32_t key, lingbarrow_port_id port, uint32_t options, uint32_t last,
                                                      const uint8_t *sdu, size_t sdu_length, uint8_t *target, size_t target_length)
 {
     return lingbarrow_write_xgem_frame(key, port.number, options, last, sdu, sdu_length, target, target_length);

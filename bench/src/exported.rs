@@ -7,10 +7,12 @@ pub use rng::Rng;
 use xgpon_peer::{Activation, Owed, Station};
 
 pub const STATE: usize = 208;
+pub const STATE_VERSION: u8 = 8;
 
 #[allow(dead_code)]
 extern "C" {
     pub fn lingbarrow_power_on(s: *mut u8, sn: usize, serial: *const u8, n: usize, id: *const u8, idn: usize) -> u8;
+    pub fn lingbarrow_in_range(s: *const u8, sn: usize) -> u8;
     pub fn lingbarrow_frame(
         s: *mut u8, sn: usize, m: *mut u8, mn: usize, f: *const u8, f_n: usize, delay: u32, p: *mut u16, pn: usize,
         r: *mut u8, rn: usize, d: *mut u8, dn: usize, c: *mut usize, cn: usize,
@@ -20,11 +22,13 @@ extern "C" {
     pub fn lingbarrow_remove_port(s: *mut u8, sn: usize, port: u16) -> u8;
     pub fn lingbarrow_give_key(s: *mut u8, sn: usize, k: *const u8, kn: usize) -> u8;
     pub fn lingbarrow_stretch(s: *const u8, sn: usize, f: *const u8, f_n: usize, k: usize, p: *mut usize, pn: usize) -> u8;
+    pub fn lingbarrow_stretches(s: *const u8, sn: usize, f: *const u8, f_n: usize, p: *mut usize, pn: usize, c: *mut usize, cn: usize) -> u8;
 }
 
 /// The one form of a state, in the order of crates/layout/specs/Offsets.antt.
 pub fn octets(s: &Station) -> [u8; STATE] {
     let mut o = Vec::with_capacity(STATE);
+    o.push(STATE_VERSION);
     o.push(s.activation.number());
     let left = match s.activation {
         Activation::Ranging(n) | Activation::Intermittent(n) => u32::try_from(n).unwrap(),
@@ -50,6 +54,5 @@ pub fn octets(s: &Station) -> [u8; STATE] {
     s.partial.iter().for_each(|n| o.extend(n.to_be_bytes()));
     o.extend(s.waiting.iter().map(|w| *w as u8));
     o.extend(s.carried.to_be_bytes());
-    o.push(0);
     o.try_into().expect("208 octets")
 }

@@ -125,6 +125,42 @@ fn measure(name: &str, s: &Station, f: &[u8]) {
     line(name, || { black_box(theirs(s, f, &mut x)); }, || { black_box(ours(&octets, f, &mut y)); });
 }
 
+fn place(s: &[u8; STATE], f: &[u8], k: usize) -> (u8, [usize; 2]) {
+    let (f, mut place) = (black_box(f), [7; 2]);
+    let answer = unsafe { lingbarrow_stretch(black_box(s).as_ptr(), STATE, f.as_ptr(), f.len(), k, place.as_mut_ptr(), 2) };
+    (answer, place)
+}
+
+/// The stretch of one delivery.
+fn measure_stretch(name: &str, s: &Station, f: &[u8], k: usize) {
+    let octets = octets(s);
+    let (answer, part) = stretch(s, f, k);
+    let at = if part.is_empty() { 0 } else { part.as_ptr() as usize - f.as_ptr() as usize };
+    assert_eq!(place(&octets, f, k), (answer.number(), [at, part.len()]), "{name}");
+    line(name, || { black_box(stretch(black_box(s), black_box(f), k)); }, || { black_box(place(&octets, f, k)); });
+}
+
+fn places(s: &[u8; STATE], f: &[u8], places: &mut [usize]) -> (u8, usize) {
+    let (f, mut count) = (black_box(f), [7]);
+    let answer = unsafe {
+        lingbarrow_stretches(black_box(s).as_ptr(), STATE, f.as_ptr(), f.len(), places.as_mut_ptr(), places.len(), count.as_mut_ptr(), 1)
+    };
+    (answer, count[0])
+}
+
+/// All stretches of a frame; the independent engine has no such call, and beside it stands its stretch of the last delivery.
+fn measure_stretches(name: &str, s: &Station, f: &[u8], count: usize) {
+    let octets = octets(s);
+    let mut list = vec![7; f.len() / 8 + 1];
+    let (answer, found) = places(&octets, f, &mut list);
+    assert_eq!((answer, found), (0, count), "{name}");
+    for k in [0, 1, count / 2, count - 1] {
+        assert_eq!((0, [list[2 * k], list[2 * k + 1]]), place(&octets, f, k), "{name}");
+    }
+    assert!(list[2 * count..].iter().all(|n| *n == 7), "{name}");
+    line(name, || { black_box(stretch(black_box(s), black_box(f), count - 1)); }, || { black_box(places(&octets, f, &mut list)); });
+}
+
 fn sdus(size: usize) -> Frame {
     let mut f = Frame::new();
     for i in 0..(FRAME_MAX - 4) / (8 + layout::payload_bytes(size as u16)) {
@@ -178,7 +214,12 @@ fn main() {
     measure("2,047 heads of ours, all but one passed over", &s, &own.bytes());
 
     for size in [1500, 64, 9] {
-        measure(&format!("full frame of {size}-byte SDUs"), &s, &sdus(size).full());
+        let (f, count) = (sdus(size).full(), (FRAME_MAX - 4) / (8 + layout::payload_bytes(size as u16)));
+        measure(&format!("full frame of {size}-byte SDUs"), &s, &f);
+        measure_stretch("    its first stretch", &s, &f, 0);
+        measure_stretch("    its last stretch", &s, &f, count - 1);
+        measure_stretch("    the stretch of no such delivery", &s, &f, count);
+        measure_stretches("    all its stretches, beside one", &s, &f, count);
     }
     let mut nine = sdus(9);
     damage(&mut rng, &mut nine.payload, 20);

@@ -128,6 +128,49 @@ fn make_frame(rng: &mut Rng, s: &Station) -> Vec<u8> {
     bytes
 }
 
+/// All stretches of a frame, before its frame call: each is the independent engine's, from the count on it has none, and past them the
+/// list is as it was. A list that is a number too short, or no room for the count, is answered 3 where 1 and 2 is not the answer. What
+/// is returned is the count.
+fn all_stretches(rng: &mut Rng, state: *const u8, peer: &Station, f: &[u8]) -> usize {
+    let call = |places: &mut [usize], count: &mut [usize]| unsafe {
+        lingbarrow_stretches(state, STATE, f.as_ptr(), f.len(), places.as_mut_ptr(), places.len(), count.as_mut_ptr(), count.len())
+    };
+    let need = f.len() / 8;
+    let mut places = vec![7; need + rng.below(3) as usize];
+    let mut count = [7; 2];
+    let said = stretch(peer, f, 0).0.number();
+    assert_eq!(call(&mut places, &mut count), said, "all stretches: the answer");
+    let [found, rest] = count;
+    assert_eq!(rest, 7, "past the count");
+    for k in 0..=found {
+        let (answer, part) = stretch(peer, f, k);
+        let at = if part.is_empty() { 0 } else { part.as_ptr() as usize - f.as_ptr() as usize };
+        assert_eq!(answer.number(), said, "all stretches: the answer to one");
+        assert_eq!([at, part.len()], if k < found { [places[2 * k], places[2 * k + 1]] } else { [0, 0] }, "all stretches: number {k}");
+    }
+    assert!(places[2 * found..].iter().all(|n| *n == 7), "past the stretches");
+    let short = if said == 1 || said == 2 { said } else { 3 };
+    places.fill(7);
+    count = [9; 2];
+    assert_eq!(call(&mut places, &mut []), short, "no room for the count");
+    if need > 0 {
+        assert_eq!(call(&mut places[..need - 1], &mut count), short, "no room for the stretches");
+        assert_eq!(count, [0, 9], "no room for the stretches: the count");
+    }
+    assert!(places.iter().all(|n| *n == 7), "no room: the list");
+    found
+}
+
+/// How many deliveries stand in so many bytes.
+fn deliveries(mut of: &[u8]) -> usize {
+    let mut count = 0;
+    while !of.is_empty() {
+        of = &of[4 + usize::from(u16::from_be_bytes([of[2], of[3]]))..];
+        count += 1;
+    }
+    count
+}
+
 /// A state that no run need reach, in range or not.
 fn unsettle(rng: &mut Rng, s: &mut Station) {
     match rng.below(12) {
@@ -171,13 +214,31 @@ fn main() {
                     unsettle(&mut rng, &mut other);
                 }
                 ours[..STATE].copy_from_slice(&octets(&other));
-                if other.in_range() {
+                let another_version = rng.once_in(4);
+                if another_version {
+                    ours[0] = rng.pick(&[0, 1, 2, 4, 5, 6, 7, STATE_VERSION + 1, 255]);
+                }
+                if other.in_range() && !another_version {
                     // both go on from it
                     peer = other;
                 } else {
-                    // every call answers 1 and changes nothing
+                    // every call answers 1 and changes nothing, whatever else is wrong
+                    let before = ours;
                     let s = ours.as_mut_ptr();
-                    let (f, key, mut counts, mut place) = ([0u8; 4], [0u8; 16], COUNTS_BEFORE, [7usize; 2]);
+                    let (f, key, mut counts, mut place) = ([0u8; 6], [0u8; 16], COUNTS_BEFORE, [7usize; 2]);
+                    let unfit = unsafe {
+                        [
+                            lingbarrow_in_range(s, STATE),
+                            lingbarrow_give_key(s, STATE, key.as_ptr(), 15),
+                            lingbarrow_stretch(s, STATE, f.as_ptr(), 6, 0, place.as_mut_ptr(), 1),
+                            lingbarrow_frame(
+                                s, STATE, lent.memory.as_mut_ptr(), 0, f.as_ptr(), 6, 0, lent.plan.as_mut_ptr(), 0, lent.replies.as_mut_ptr(), 0,
+                                lent.deliveries.as_mut_ptr(), 0, counts.as_mut_ptr(), 2,
+                            ),
+                        ]
+                    };
+                    assert_eq!(unfit, [1; 4], "a state out of range, and more that is unfit");
+                    assert_eq!((counts, place), (COUNTS_BEFORE, [7; 2]));
                     let said = unsafe {
                         [
                             lingbarrow_lost(s, STATE),
@@ -192,33 +253,59 @@ fn main() {
                             ),
                         ]
                     };
+                    let (mut places, mut count) = ([7usize; 2], [7usize]);
+                    let listed = unsafe { lingbarrow_stretches(s, STATE, f.as_ptr(), 4, places.as_mut_ptr(), 2, count.as_mut_ptr(), 1) };
+                    assert_eq!((listed, places, count), (1, [7; 2], [0]), "a state out of range: all stretches");
                     let again = |call: fn(&mut Station) -> xgpon_peer::Answer| {
                         let mut s = other.clone();
                         let answer = call(&mut s).number();
                         assert!(s == other);
                         answer
                     };
-                    let by = [
-                        again(|s| s.lost()),
-                        again(|s| s.add_port(PortId(2000))),
-                        again(|s| s.remove_port(PortId(2000))),
-                        again(|s| s.give_key([0; 16])),
-                        stretch(&other, &f, 0).0.number(),
-                        1,
-                    ];
-                    assert_eq!(said, by, "a state out of range");
+                    let by = || {
+                        [
+                            again(|s| s.lost()),
+                            again(|s| s.add_port(PortId(2000))),
+                            again(|s| s.remove_port(PortId(2000))),
+                            again(|s| s.give_key([0; 16])),
+                            stretch(&other, &f[..4], 0).0.number(),
+                            1,
+                        ]
+                    };
+                    assert_eq!(said, if another_version { [1; 6] } else { by() }, "a state out of range");
                     assert_eq!((counts, place), ([0; 3], [0; 2]));
-                    assert_eq!(ours[..STATE], octets(&other), "a state out of range changed");
+                    assert_eq!(ours, before, "a state out of range changed");
                     assert!(lent == theirs, "a lent buffer changed");
-                    answers[1] += 6;
-                    done += 6;
+                    answers[1] += 10;
+                    done += 10;
                     ours[..STATE].copy_from_slice(&octets(&peer));
                 }
             }
             let state = ours.as_mut_ptr();
             // a lost time ends what O4 has come to, so that it is seldom
             let kind = if rng.once_in(40) { 1 } else { rng.pick(&[0usize, 0, 0, 0, 0, 0, 0, 2, 2, if fills { 2 } else { 3 }, 4, 5]) };
+            assert_eq!(unsafe { lingbarrow_in_range(state, STATE) }, 0, "a state in range");
+            // what comes back, or the key, has no room
+            let roomless = rng.once_in(25);
             let (a, b) = match kind {
+                0 | 5 if roomless => {
+                    let f = make_frame(&mut rng, &peer);
+                    let (mut counts, mut place) = (COUNTS_BEFORE, [7usize; 2]);
+                    let answer = if kind == 0 {
+                        unsafe {
+                            lingbarrow_frame(
+                                state, STATE, lent.memory.as_mut_ptr(), lent.memory.len(), f.as_ptr(), f.len(), 0, lent.plan.as_mut_ptr(),
+                                lent.plan.len(), lent.replies.as_mut_ptr(), lent.replies.len(), lent.deliveries.as_mut_ptr(),
+                                lent.deliveries.len(), counts.as_mut_ptr(), 2,
+                            )
+                        }
+                    } else {
+                        unsafe { lingbarrow_stretch(state, STATE, f.as_ptr(), f.len(), 0, place.as_mut_ptr(), 1) }
+                    };
+                    assert_eq!((counts, place), (COUNTS_BEFORE, [7; 2]), "what has no room");
+                    (answer, if (4..=FRAME_MAX).contains(&f.len()) && f.len() % 4 == 0 { 3 } else { 2 })
+                }
+                4 if roomless => (unsafe { lingbarrow_give_key(state, STATE, [0; 15].as_ptr(), 15) }, 3),
                 0 => {
                     let f = make_frame(&mut rng, &peer);
                     let delay = rng.pick(&[0, 1, 119_439, 119_440, u32::MAX]);
@@ -230,6 +317,7 @@ fn main() {
                     }
                     let [m, p, r, d] = lengths;
                     let mut counts = COUNTS_BEFORE;
+                    let found = all_stretches(&mut rng, state, &peer, &f);
                     let out = frame(&mut peer, &f, delay, Lent {
                         memory: &mut theirs.memory[..m],
                         plan: &mut theirs.plan[..p],
@@ -243,6 +331,9 @@ fn main() {
                         )
                     };
                     assert_eq!(counts, [out.records, out.replies, out.delivered], "the counts");
+                    if answer == 0 || answer == 6 {
+                        assert_eq!(deliveries(&lent.deliveries[..out.delivered]), found, "as many stretches as deliveries");
+                    }
                     (0..3).for_each(|i| written[i] += counts[i]);
                     (answer, out.answer.number())
                 }
@@ -263,6 +354,7 @@ fn main() {
                 _ => {
                     let f = make_frame(&mut rng, &peer);
                     let k = rng.below(4) as usize;
+                    all_stretches(&mut rng, state, &peer, &f);
                     let mut place = [7usize; 2];
                     let answer = unsafe { lingbarrow_stretch(state, STATE, f.as_ptr(), f.len(), k, place.as_mut_ptr(), 2) };
                     let (said, part) = stretch(&peer, &f, k);

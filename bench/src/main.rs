@@ -10,6 +10,7 @@ mod map;
 mod messages;
 mod payload;
 mod rng;
+mod stretches;
 
 pub use rng::Rng;
 use std::hint::black_box;
@@ -55,6 +56,7 @@ fn main() {
     headers::run(!check);
     messages::run(!check);
     map::run(!check);
+    stretches::run(!check);
     payload::run(!check);
     black_box(());
 }

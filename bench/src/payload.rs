@@ -17,7 +17,7 @@ extern "C" {
 }
 
 /// XGEM frames of one size to our sixteen ports in turn, as many as a full frame holds.
-fn full(size: usize, fragments: usize, flips: bool) -> Vec<u8> {
+pub fn full(size: usize, fragments: usize, flips: bool) -> Vec<u8> {
     let mut f = vec![0; 4];
     let step = 8 + layout::payload_bytes(size as u16);
     let mut count = 0;
@@ -43,7 +43,7 @@ fn full(size: usize, fragments: usize, flips: bool) -> Vec<u8> {
 }
 
 /// A payload of any frames: ours, foreign, idle, empty, unfinished, too long, damaged, or cut off.
-fn any(rng: &mut Rng) -> Vec<u8> {
+pub fn any(rng: &mut Rng) -> Vec<u8> {
     let mut f = vec![0; 4];
     for _ in 0..rng.next() % 40 {
         let size = match rng.next() % 8 {

@@ -32,6 +32,7 @@ int main(void)
 
     if (example() || lingbarrow_add_port(state, sizeof state, lingbarrow_port_id_of(2000)) || lingbarrow_give_key(state, sizeof state, key, sizeof key))
         return 1;
+    number("the version", LINGBARROW_AT_VERSION, 1, LINGBARROW_STATE_VERSION);
     number("the state", LINGBARROW_AT_STATE, 1, 5);
     number("the time left", LINGBARROW_AT_TIME, 4, 0);
     number("the ONU-ID", LINGBARROW_AT_ONU_ID, 2, 5);
@@ -41,7 +42,7 @@ int main(void)
     number("that a key is held", LINGBARROW_AT_KEY_HELD, 1, 1);
     octets("the key", LINGBARROW_AT_KEY, key, sizeof key);
     number("the first port", LINGBARROW_AT_PORT_IDS, 2, 2000);
-    number("the reserved octet", LINGBARROW_AT_RESERVED, 1, 0);
+    number("the carried words", LINGBARROW_AT_CARRIED, LINGBARROW_STATE_BYTES - LINGBARROW_AT_CARRIED, 0);
 
     for (size_t i = 0; i < sizeof serial; i++)
         serial[i] = (uint8_t)(0x80 + i);

@@ -6,7 +6,8 @@
  *     WH length map messages; WA length alloc dbru ploamu start grant fwi profile; WX length key port options last sdu
  *         the writers, into so many bytes of EE
  * What comes back: answer; for stations the state, in brackets what it holds; for a frame its counts and CRC-32 over the whole of each
- * buffer; for a stretch its place; for a writer its target. */
+ * buffer; for a stretch its place; for a writer its target.
+ * Before each frame call, and with each stretch, all stretches of the frame are asked for too: they are those of the call for one. */
 #include "lingbarrow.h"
 #include <inttypes.h>
 #include <stdio.h>
@@ -18,7 +19,7 @@ static uint8_t memory[LINGBARROW_MEMORY_BYTES];
 static uint16_t plan[LINGBARROW_PLAN_NUMBERS];
 static uint8_t replies[LINGBARROW_REPLY_BYTES];
 static uint8_t deliveries[LINGBARROW_DELIVERY_BYTES(LINGBARROW_FRAME_MOST)];
-static size_t counts[LINGBARROW_COUNTS], place[LINGBARROW_PLACE];
+static size_t counts[LINGBARROW_COUNTS], place[LINGBARROW_PLACE], places[LINGBARROW_PLACES(LINGBARROW_FRAME_MOST) + 2];
 
 static char *line, *rest, *said;
 static size_t room, used;
@@ -50,6 +51,16 @@ static char *word(void)
 static uint64_t number(void)
 {
     return strtoull(word(), NULL, 10);
+}
+
+/* As wide as the writers take them. */
+static uint32_t value(void)
+{
+    uint64_t found = number();
+
+    if (found > UINT32_MAX)
+        fail("a number of more than 32 bits");
+    return (uint32_t)found;
 }
 
 static uint8_t digit(char c)
@@ -143,6 +154,40 @@ static uint32_t crc(uint32_t sum, const uint8_t *from, size_t length)
     return ~sum;
 }
 
+/* All stretches of a frame are each of them, from the count on there is none, and past them the list is as it was. */
+static void all_stretches(const uint8_t *frame, size_t length)
+{
+    size_t room = LINGBARROW_PLACES(length), count[LINGBARROW_STRETCH_COUNTS], one[LINGBARROW_PLACE];
+    uint8_t answer;
+
+    if (length > LINGBARROW_FRAME_MOST)
+        room = LINGBARROW_PLACES(LINGBARROW_FRAME_MOST);
+    for (size_t i = 0; i < room + 2; i++)
+        places[i] = 77 + i;
+    answer = lingbarrow_stretches(state, sizeof state, frame, length, places, room, count, LINGBARROW_STRETCH_COUNTS);
+    if (2 * count[0] > room || (answer && answer != LINGBARROW_DELINEATION_LOST && count[0]))
+        fail("all stretches: more than there can be");
+    for (size_t k = 0; k < count[0] + 2; k++) {
+        if (answer != lingbarrow_stretch(state, sizeof state, frame, length, k, one, LINGBARROW_PLACE))
+            fail("all stretches and one of them answer differently");
+        if (k < count[0] ? places[2 * k] != one[0] || places[2 * k + 1] != one[1] : one[0] || one[1])
+            fail("all stretches are not each of them");
+    }
+    for (size_t i = 2 * count[0]; i < room + 2; i++)
+        if (places[i] != 77 + i)
+            fail("all stretches: the list past them is not as it was");
+    /* one number fewer, and no room for the count: 3 where 1 and 2 is not the answer, and nothing is changed */
+    if (answer != LINGBARROW_STATE_OUT_OF_RANGE && answer != LINGBARROW_FRAME_LENGTH)
+        answer = LINGBARROW_BUFFER_TOO_SHORT;
+    count[0] = 5;
+    places[0] = 6;
+    if (lingbarrow_stretches(state, sizeof state, frame, length, places, room, count, 0) != answer || count[0] != 5 || places[0] != 6)
+        fail("all stretches without room for the count");
+    if (room && (lingbarrow_stretches(state, sizeof state, frame, length, places, room - 1, count, LINGBARROW_STRETCH_COUNTS) != answer
+                 || count[0] != 0 || places[0] != 6))
+        fail("all stretches without room for them");
+}
+
 static void frame_call(void)
 {
     uint32_t delay = (uint32_t)number(), plan_sum = 0;
@@ -152,6 +197,7 @@ static void frame_call(void)
     if (memory_length > sizeof memory || plan_length > LINGBARROW_PLAN_NUMBERS || replies_length > sizeof replies
         || deliveries_length > sizeof deliveries)
         fail("a frame call that lends more than there is");
+    all_stretches(frame, length);
     SAY("%d", lingbarrow_frame(state, sizeof state, memory, memory_length, frame, length, delay, plan, plan_length, replies, replies_length,
                                deliveries, deliveries_length, counts, LINGBARROW_COUNTS));
     say_state();
@@ -170,19 +216,15 @@ static void writer(char which)
 
     memset(target, 0xee, length);
     if (which == 'H') {
-        uint64_t map = number(), messages = number();
-        answer = lingbarrow_write_hlend((uint16_t)map, (uint8_t)messages, target, length);
+        uint32_t map = value(), messages = value();
+        answer = lingbarrow_write_hlend(map, messages, target, length);
     } else if (which == 'A') {
-        lingbarrow_alloc_id alloc = lingbarrow_alloc_id_of((uint16_t)number());
-        uint64_t dbru = number(), ploamu = number(), start = number(), grant = number(), fwi = number(), profile = number();
-        answer = lingbarrow_write_allocation(alloc, (uint8_t)dbru, (uint8_t)ploamu, (uint16_t)start, (uint16_t)grant, (uint8_t)fwi,
-                                             (uint8_t)profile, target, length);
+        uint32_t alloc = value(), dbru = value(), ploamu = value(), start = value(), grant = value(), fwi = value(), profile = value();
+        answer = (lingbarrow_write_allocation)(alloc, dbru, ploamu, start, grant, fwi, profile, target, length);
     } else {
-        uint64_t key = number();
-        lingbarrow_port_id port = lingbarrow_port_id_of((uint16_t)number());
-        uint64_t options = number(), last = number();
+        uint32_t key = value(), port = value(), options = value(), last = value();
         const uint8_t *sdu = octets(&sdu_length);
-        answer = lingbarrow_write_xgem_frame((uint8_t)key, port, (uint32_t)options, (uint8_t)last, sdu, sdu_length, target, length);
+        answer = (lingbarrow_write_xgem_frame)(key, port, options, last, sdu, sdu_length, target, length);
     }
     SAY("%d ", answer);
     say_octets(target, length);
@@ -206,6 +248,7 @@ static void play(void)
     case 'S': {
         size_t k = number();
         const uint8_t *frame = octets(&length);
+        all_stretches(frame, length);
         SAY("%d", lingbarrow_stretch(state, sizeof state, frame, length, k, place, LINGBARROW_PLACE));
         SAY(" %zu %zu", place[0], place[1]);
         return;

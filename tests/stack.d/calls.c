@@ -17,6 +17,8 @@ const struct lengths whole = {
     LINGBARROW_DELIVERY_BYTES(LINGBARROW_FRAME_MOST),
     LINGBARROW_COUNTS,
     LINGBARROW_PLACE,
+    LINGBARROW_PLACES(LINGBARROW_FRAME_MOST),
+    LINGBARROW_STRETCH_COUNTS,
     TARGET,
     LINGBARROW_SERIAL_BYTES,
     LINGBARROW_REGISTRATION_BYTES,
@@ -37,6 +39,12 @@ static void power_on(void)
 {
     called_from = __builtin_frame_address(0);
     answer = lingbarrow_power_on(lent.state, lengths.state, serial, lengths.serial, registration, lengths.registration);
+}
+
+static void in_range(void)
+{
+    called_from = __builtin_frame_address(0);
+    answer = lingbarrow_in_range(lent.state, lengths.state);
 }
 
 static void arrive(void)
@@ -77,6 +85,13 @@ static void stretch(void)
     answer = lingbarrow_stretch(lent.state, lengths.state, frame, frame_length, given.number, lent.place, lengths.place);
 }
 
+static void stretches(void)
+{
+    called_from = __builtin_frame_address(0);
+    answer = lingbarrow_stretches(lent.state, lengths.state, frame, frame_length, lent.places, lengths.places, lent.stretch_counts,
+                                  lengths.stretch_counts);
+}
+
 static void write_hlend(void)
 {
     called_from = __builtin_frame_address(0);
@@ -107,12 +122,14 @@ static struct {
     char scenario[128];
 } calls[CALLS] = {
     [POWER_ON] = CALL(power_on, lingbarrow_power_on, LINGBARROW_STACK_POWER_ON),
+    [IN_RANGE] = CALL(in_range, lingbarrow_in_range, LINGBARROW_STACK_IN_RANGE),
     [FRAME] = CALL(arrive, lingbarrow_frame, LINGBARROW_STACK_FRAME),
     [LOST] = CALL(lose, lingbarrow_lost, LINGBARROW_STACK_LOST),
     [ADD_PORT] = CALL(add_port, lingbarrow_add_port, LINGBARROW_STACK_ADD_PORT),
     [REMOVE_PORT] = CALL(remove_port, lingbarrow_remove_port, LINGBARROW_STACK_REMOVE_PORT),
     [GIVE_KEY] = CALL(give_key, lingbarrow_give_key, LINGBARROW_STACK_GIVE_KEY),
     [STRETCH] = CALL(stretch, lingbarrow_stretch, LINGBARROW_STACK_STRETCH),
+    [STRETCHES] = CALL(stretches, lingbarrow_stretches, LINGBARROW_STACK_STRETCHES),
     [WRITE_HLEND] = CALL(write_hlend, lingbarrow_write_hlend, LINGBARROW_STACK_WRITE_HLEND),
     [WRITE_ALLOCATION] = CALL(write_allocation, lingbarrow_write_allocation, LINGBARROW_STACK_WRITE_ALLOCATION),
     [WRITE_XGEM_FRAME] = CALL(write_xgem_frame, lingbarrow_write_xgem_frame, LINGBARROW_STACK_WRITE_XGEM_FRAME),

@@ -5,7 +5,7 @@
 #include "lingbarrow.h"
 #include <stdbool.h>
 
-enum { POWER_ON, FRAME, LOST, ADD_PORT, REMOVE_PORT, GIVE_KEY, STRETCH, WRITE_HLEND, WRITE_ALLOCATION, WRITE_XGEM_FRAME, CALLS };
+enum { POWER_ON, IN_RANGE, FRAME, LOST, ADD_PORT, REMOVE_PORT, GIVE_KEY, STRETCH, STRETCHES, WRITE_HLEND, WRITE_ALLOCATION, WRITE_XGEM_FRAME, CALLS };
 
 enum { TARGET = 16400 };
 
@@ -18,6 +18,8 @@ struct lent {
     uint8_t deliveries[LINGBARROW_DELIVERY_BYTES(LINGBARROW_FRAME_MOST)];
     size_t counts[LINGBARROW_COUNTS];
     size_t place[LINGBARROW_PLACE];
+    size_t places[LINGBARROW_PLACES(LINGBARROW_FRAME_MOST)];
+    size_t stretch_counts[LINGBARROW_STRETCH_COUNTS];
     uint8_t target[TARGET];
 };
 
@@ -25,7 +27,7 @@ extern struct lent lent;
 
 /* How long they are said to be, and those that are only read. */
 struct lengths {
-    size_t state, memory, plan, replies, deliveries, counts, place, target, serial, registration, key, sdu;
+    size_t state, memory, plan, replies, deliveries, counts, place, places, stretch_counts, target, serial, registration, key, sdu;
 };
 
 extern const struct lengths whole;
@@ -35,9 +37,7 @@ extern struct lengths lengths;
 extern struct given {
     uint16_t port;
     size_t number;
-    uint16_t bwmap, alloc, start, grant, xgem_port;
-    uint8_t ploam, dbru, ploamu, fwi, profile, key_index, last;
-    uint32_t options;
+    uint32_t bwmap, ploam, alloc, dbru, ploamu, start, grant, fwi, profile, key_index, xgem_port, options, last;
 } given;
 
 /* The station that scenarios begin with, in front of their names, and whether each scenario is to be printed. */

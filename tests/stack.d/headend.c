@@ -128,8 +128,7 @@ static void expect_reply(void)
 
 void put_entry(unsigned alloc, unsigned dbru, unsigned ploamu, unsigned start, unsigned grant, bool planned)
 {
-    must(lingbarrow_write_allocation(lingbarrow_alloc_id_of((uint16_t)alloc), (uint8_t)dbru, (uint8_t)ploamu, (uint16_t)start,
-                                     (uint16_t)grant, 0, 2, frame + frame_length, 8));
+    must(lingbarrow_write_allocation(lingbarrow_alloc_id_of((uint16_t)alloc), dbru, ploamu, start, grant, 0, 2, frame + frame_length, 8));
     header[headers++] = frame_length;
     frame_length += 8;
     entries++;
@@ -205,7 +204,7 @@ void put_xgem(unsigned port, unsigned last, size_t size)
 {
     static const uint8_t sdu[16383] = {'S', 'D', 'U'};
 
-    must(lingbarrow_write_xgem_frame(0, lingbarrow_port_id_of((uint16_t)port), 0, (uint8_t)last, sdu, size, frame + frame_length,
+    must(lingbarrow_write_xgem_frame(0, lingbarrow_port_id_of((uint16_t)port), 0, last, sdu, size, frame + frame_length,
                                      LINGBARROW_FRAME_MOST - frame_length));
     header[headers++] = frame_length;
     if (station.state == O5 && size && (port == OWN || (PORT <= port && port < PORT + PORTS)))
@@ -227,7 +226,7 @@ void put_idle(void)
 
 void end_frame(void)
 {
-    must(lingbarrow_write_hlend((uint16_t)entries, (uint8_t)messages, frame, 4));
+    must(lingbarrow_write_hlend(entries, messages, frame, 4));
     if (station.state == O5 && after.state == O5)
         memcpy(after.slots, walked, sizeof walked);
     after.state = after.state == O1 ? O2_3 : after.state == O6 ? O5 : after.state;

@@ -145,6 +145,7 @@ static void keep(void)
 {
     memset(lent.counts, 0, sizeof lent.counts);
     memset(lent.place, 0, sizeof lent.place);
+    memset(lent.stretch_counts, 0, sizeof lent.stretch_counts);
     memcpy(&kept, &lent, sizeof lent);
     station_kept = station;
 }
@@ -216,7 +217,7 @@ static void house(unsigned flips, const struct kind *last)
         expected.bytes = expected.deliveries = 0;
 }
 
-/* A delivery that stands in one piece, one of several fragments, the last, and none. */
+/* All of them at once; and a delivery that stands in one piece, one of several fragments, the last, and none. */
 static void stretches(const char *what, unsigned wanted)
 {
     bool walked = wanted == LINGBARROW_DONE || wanted == LINGBARROW_DELINEATION_LOST;
@@ -237,6 +238,14 @@ static void stretches(const char *what, unsigned wanted)
         claim(lent.place[0] == (delivered ? expected.stretch[numbers[i]].at : 0), "the stretch's offset");
         claim(lent.place[1] == (delivered ? expected.stretch[numbers[i]].bytes : 0), "the stretch's length");
     }
+    memset(lent.places, 0x77, sizeof lent.places);
+    memset(lent.stretch_counts, 0x77, sizeof lent.stretch_counts);
+    call(STRETCHES, what, wanted);
+    claim(lent.stretch_counts[0] == count, "the count of stretches");
+    for (size_t i = 0; i < count; i++)
+        claim(lent.places[2 * i] == expected.stretch[i].at && lent.places[2 * i + 1] == expected.stretch[i].bytes, "each stretch");
+    for (size_t i = 2 * count; i < LINGBARROW_PLACES(LINGBARROW_FRAME_MOST); i++)
+        claim(!memcmp(lent.places + i, "\x77\x77\x77\x77\x77\x77\x77\x77", sizeof lent.places[i]), "the list past the stretches");
 }
 
 static void houses(void)
@@ -420,7 +429,7 @@ static void set_onu_id(unsigned id)
 /* What all calls refuse that take a state. */
 static void states_refused(void)
 {
-    static const unsigned taking[] = {FRAME, LOST, ADD_PORT, REMOVE_PORT, GIVE_KEY, STRETCH};
+    static const unsigned taking[] = {IN_RANGE, FRAME, LOST, ADD_PORT, REMOVE_PORT, GIVE_KEY, STRETCH, STRETCHES};
 
     back();
     begin_frame();
@@ -431,11 +440,16 @@ static void states_refused(void)
         back();
         lengths.state--;
         refused(taking[i], "a state that is too short", LINGBARROW_BUFFER_TOO_SHORT);
+        lent.state[LINGBARROW_AT_VERSION]++;
+        refused(taking[i], "a state of another version", LINGBARROW_STATE_OUT_OF_RANGE);
+        back();
         lent.state[LINGBARROW_AT_STATE] = 3;
         refused(taking[i], "octets that are no state's", LINGBARROW_STATE_OUT_OF_RANGE);
         back();
         set_onu_id(onu_id() == OWN ? EVERYONE : OWN);
         refused(taking[i], "a state out of range", LINGBARROW_STATE_OUT_OF_RANGE);
+        lengths.counts = lengths.place = lengths.key = 0;
+        refused(taking[i], "a state out of range, and no room", LINGBARROW_STATE_OUT_OF_RANGE);
     }
 }
 
@@ -458,10 +472,20 @@ static void frames_refused(void)
     refused(FRAME, "counts that are too short", LINGBARROW_BUFFER_TOO_SHORT);
     lengths.place--;
     refused(STRETCH, "a place that is too short", LINGBARROW_BUFFER_TOO_SHORT);
+    lengths.stretch_counts--;
+    refused(STRETCHES, "no room for the count", LINGBARROW_BUFFER_TOO_SHORT);
+    frame_length = 8;
+    lengths.places = LINGBARROW_PLACES(frame_length) - 1;
+    refused(STRETCHES, "a list that is too short", LINGBARROW_BUFFER_TOO_SHORT);
     for (unsigned i = 0; i < COUNT(unfit); i++) {
         frame_length = unfit[i];
         refused(FRAME, "a length that no frame has", LINGBARROW_FRAME_LENGTH);
         refused(STRETCH, "a length that no frame has", LINGBARROW_FRAME_LENGTH);
+        refused(STRETCHES, "a length that no frame has", LINGBARROW_FRAME_LENGTH);
+        lengths.counts--;
+        refused(FRAME, "a length that no frame has, and counts that are too short", LINGBARROW_FRAME_LENGTH);
+        lengths.place--;
+        refused(STRETCH, "a length that no frame has, and a place that is too short", LINGBARROW_FRAME_LENGTH);
     }
 }
 
@@ -470,6 +494,7 @@ static void host_calls(void)
     bool takes_key = station_kept.state == O4 || station_kept.state == O5 || station_kept.state == O6;
 
     back();
+    refused(IN_RANGE, "a state in range", LINGBARROW_DONE);
     frame_is_lost("a lost frame time");
     back();
     for (given.port = PORT; given.port < PORT + PORTS; given.port++) {
@@ -517,14 +542,21 @@ static void written(unsigned which, const char *what)
     claim(!unchanged(), "something is written");
 }
 
+/* The field holds the widest value that fits it. */
+static void too_wide(unsigned which, uint32_t *field, const char *what)
+{
+    ++*field;
+    refused(which, what, LINGBARROW_NOT_WRITTEN);
+    --*field;
+}
+
 static void hlends(void)
 {
     given.bwmap = 2047;
     given.ploam = 255;
     written(WRITE_HLEND, "written");
-    given.bwmap = 2048;
-    refused(WRITE_HLEND, "a length too wide", LINGBARROW_NOT_WRITTEN);
-    given.bwmap = 0;
+    too_wide(WRITE_HLEND, &given.bwmap, "a BWmap length too wide");
+    too_wide(WRITE_HLEND, &given.ploam, "a PLOAM count too wide");
     lengths.target = 3;
     refused(WRITE_HLEND, "a target that is too short", LINGBARROW_NOT_WRITTEN);
 }
@@ -536,21 +568,13 @@ static void allocations(void)
     given.start = given.grant = 65535;
     given.profile = 3;
     written(WRITE_ALLOCATION, "written");
-    given.alloc++;
-    refused(WRITE_ALLOCATION, "an Alloc-ID too wide", LINGBARROW_NOT_WRITTEN);
-    given.alloc--;
-    given.dbru++;
-    refused(WRITE_ALLOCATION, "DBRu too wide", LINGBARROW_NOT_WRITTEN);
-    given.dbru--;
-    given.ploamu++;
-    refused(WRITE_ALLOCATION, "PLOAMu too wide", LINGBARROW_NOT_WRITTEN);
-    given.ploamu--;
-    given.fwi++;
-    refused(WRITE_ALLOCATION, "FWI too wide", LINGBARROW_NOT_WRITTEN);
-    given.fwi--;
-    given.profile++;
-    refused(WRITE_ALLOCATION, "a profile too wide", LINGBARROW_NOT_WRITTEN);
-    given.profile--;
+    too_wide(WRITE_ALLOCATION, &given.alloc, "an Alloc-ID too wide");
+    too_wide(WRITE_ALLOCATION, &given.dbru, "DBRu too wide");
+    too_wide(WRITE_ALLOCATION, &given.ploamu, "PLOAMu too wide");
+    too_wide(WRITE_ALLOCATION, &given.start, "a StartTime too wide");
+    too_wide(WRITE_ALLOCATION, &given.grant, "a GrantSize too wide");
+    too_wide(WRITE_ALLOCATION, &given.fwi, "FWI too wide");
+    too_wide(WRITE_ALLOCATION, &given.profile, "a profile too wide");
     lengths.target = 7;
     refused(WRITE_ALLOCATION, "a target that is too short", LINGBARROW_NOT_WRITTEN);
 }
@@ -574,14 +598,10 @@ static void xgem_frames(void)
     }
     lengths.sdu = 16384;
     refused(WRITE_XGEM_FRAME, "an SDU too long", LINGBARROW_NOT_WRITTEN);
-    given.key_index++;
-    refused(WRITE_XGEM_FRAME, "a key index too wide", LINGBARROW_NOT_WRITTEN);
-    given.key_index--;
-    given.options++;
-    refused(WRITE_XGEM_FRAME, "options too wide", LINGBARROW_NOT_WRITTEN);
-    given.options--;
-    given.last++;
-    refused(WRITE_XGEM_FRAME, "LF too wide", LINGBARROW_NOT_WRITTEN);
+    too_wide(WRITE_XGEM_FRAME, &given.key_index, "a key index too wide");
+    too_wide(WRITE_XGEM_FRAME, &given.xgem_port, "a Port-ID too wide");
+    too_wide(WRITE_XGEM_FRAME, &given.options, "options too wide");
+    too_wide(WRITE_XGEM_FRAME, &given.last, "LF too wide");
 }
 
 int main(int argc, char **argv)

@@ -60,7 +60,9 @@
 mod raw;
 
 /// Bytes of a state.
-pub const STATE_BYTES: usize = at::RESERVED + 1;
+pub const STATE_BYTES: usize = at::CARRIED + 2;
+/// The version of a state's form, its first byte: bytes of another version are no state's.
+pub const STATE_VERSION: u8 = 8;
 /// Bytes of port memory: 17 slots of 2,048.
 pub const MEMORY_BYTES: usize = 34_816;
 /// Bytes of a saved station: its state, then its port memory.
@@ -87,7 +89,8 @@ pub const SLOTS: usize = 17;
 pub mod at {
     use super::{ADDED_ALLOCS, ADDED_PORTS, MOST_OWED, SLOTS};
 
-    pub const STATE: usize = 0;
+    pub const VERSION: usize = 0;
+    pub const STATE: usize = VERSION + 1;
     pub const TIME: usize = STATE + 1;
     pub const SERIAL: usize = TIME + 4;
     pub const REGISTRATION: usize = SERIAL + 8;
@@ -103,7 +106,6 @@ pub mod at {
     pub const PARTIALS: usize = PORT_IDS + 2 * ADDED_PORTS;
     pub const WAITING: usize = PARTIALS + 2 * SLOTS;
     pub const CARRIED: usize = WAITING + SLOTS;
-    pub const RESERVED: usize = CARRIED + 2;
 }
 
 /// A PLOAM message has 48 bytes; where each of its fields stands.
@@ -122,13 +124,15 @@ pub mod message {
 /// Bytes of stack that each call of the library takes at most, as the C header has them. What a wrapper takes for itself and what the
 /// caller's own frames need comes on top.
 pub mod stack {
-    pub const POWER_ON: usize = 624;
-    pub const FRAME: usize = 3_816;
+    pub const POWER_ON: usize = 616;
+    pub const IN_RANGE: usize = 784;
+    pub const FRAME: usize = 3_592;
     pub const LOST: usize = 1_584;
     pub const ADD_PORT: usize = 1_856;
     pub const REMOVE_PORT: usize = 1_856;
-    pub const GIVE_KEY: usize = 1_600;
-    pub const STRETCH: usize = 1_216;
+    pub const GIVE_KEY: usize = 1_584;
+    pub const STRETCH: usize = 1_120;
+    pub const STRETCHES: usize = 1_136;
     pub const WRITE_HLEND: usize = 160;
     pub const WRITE_ALLOCATION: usize = 192;
     pub const WRITE_XGEM_FRAME: usize = 208;
@@ -256,6 +260,14 @@ impl Activation {
             Activation::EmergencyStop => 7,
         }
     }
+
+    /// The frame times left of TO1 in O4, of TO2 in O6; the other states have no timer.
+    pub const fn time_left(self) -> Option<u32> {
+        match self {
+            Activation::Ranging(left) | Activation::Intermittent(left) => Some(left),
+            _ => None,
+        }
+    }
 }
 
 /// The completion codes of an Acknowledgement (clause 11.3.4.4) that this engine sends.
@@ -336,19 +348,17 @@ impl Station {
         [&self.state[..], &self.memory].concat()
     }
 
-    /// A station that was saved. [`Error::StateOutOfRange`] for bytes that are none: of another length, or no state's in range.
+    /// A station that was saved. [`Error::StateOutOfRange`] for bytes that are none: of another length, of another version than
+    /// [`STATE_VERSION`], or no state's in range.
     pub fn restore(saved: &[u8]) -> Result<Station, Error> {
         if saved.len() != SAVED_BYTES {
             return Err(Error::StateOutOfRange);
         }
         let (state, memory) = saved.split_at(STATE_BYTES);
+        done(raw::in_range(state))?;
         let mut station = Station { state: [0; STATE_BYTES], memory: memory.into() };
         station.state.copy_from_slice(state);
-        // Port 0 is never held: all that is asked is whether this is a state, which is tested first.
-        match raw::remove_port(&mut station.state, 0) {
-            1 => Err(Error::StateOutOfRange),
-            _ => Ok(station),
-        }
+        Ok(station)
     }
 
     /// The state's bytes as [`at`] has them, to look at. They hold the Registration ID and the key; [`Station::save`] is what to keep.
@@ -369,6 +379,11 @@ impl Station {
 
     fn number(&self, at: usize) -> u16 {
         u16::from_be_bytes(self.octets(at))
+    }
+
+    /// The version of the state's form: [`STATE_VERSION`].
+    pub fn state_version(&self) -> u8 {
+        self.state[at::VERSION]
     }
 
     /// Where the station stands, and the frame times left to it there.
@@ -496,6 +511,29 @@ impl<'f> Arriving<'_, 'f> {
         Ok(Some(&self.frame[at..at + bytes]).filter(|s| !s.is_empty()))
     }
 
+    /// Every SDU that will be delivered, in order, each as [`stretch`](Arriving::stretch) has it, in one walk over the frame. `places`
+    /// is lent for it, [`places`] numbers for the frame's bytes; what it holds afterwards is of no use.
+    ///
+    /// ```
+    /// # use lingbarrow::{places, write_hlend, Station};
+    /// # let mut station = Station::power_on([0; 8], [0; 36]);
+    /// # let mut frame = [0; 1024];
+    /// # write_hlend(0, 0, &mut frame)?;
+    /// let mut lent = [0; places(1024)];
+    /// for sdu in station.arriving(&frame).stretches(&mut lent)?.flatten() {
+    ///     println!("{} bytes in one piece", sdu.len());
+    /// }
+    /// # Ok::<(), lingbarrow::Error>(())
+    /// ```
+    pub fn stretches<'p>(&self, places: &'p mut [usize]) -> Result<Stretches<'f, 'p>, Error> {
+        let mut count = [0];
+        match Error::of(raw::stretches(&self.station.state, self.frame, places, &mut count)) {
+            None | Some(Error::DelineationLost) => {}
+            Some(e) => return Err(e),
+        }
+        Ok(Stretches { frame: self.frame, places: places[..2 * count[0]].chunks_exact(2) })
+    }
+
     /// The frame acts: its plan, replies and deliveries go to the buffers, and the station to its next state. `random_delay` is what the
     /// caller drew for a burst in O2-3, in bit times of 2.48832 Gbit/s; the engine writes it into Serial_Number_ONU.
     ///
@@ -518,6 +556,41 @@ impl<'f> Arriving<'_, 'f> {
             deliveries: &buffers.deliveries[..bytes],
             delineation_lost,
         })
+    }
+}
+
+/// Numbers that [`Arriving::stretches`] is lent for a frame of so many bytes: an SDU takes 16 of them at least, and two numbers.
+pub const fn places(frame_bytes: usize) -> usize {
+    frame_bytes / 8
+}
+
+/// The SDUs of a frame, in the order of its deliveries, each as its own stretch of the frame; `None` for one that is put together from
+/// fragments.
+#[derive(Clone)]
+pub struct Stretches<'f, 'p> {
+    frame: &'f [u8],
+    places: std::slice::ChunksExact<'p, usize>,
+}
+
+impl<'f> Iterator for Stretches<'f, '_> {
+    type Item = Option<&'f [u8]>;
+
+    fn next(&mut self) -> Option<Option<&'f [u8]>> {
+        let place = self.places.next()?;
+        Some(Some(&self.frame[place[0]..place[0] + place[1]]).filter(|s| !s.is_empty()))
+    }
+
+    fn size_hint(&self) -> (usize, Option<usize>) {
+        self.places.size_hint()
+    }
+}
+
+impl ExactSizeIterator for Stretches<'_, '_> {}
+impl std::iter::FusedIterator for Stretches<'_, '_> {}
+
+impl std::fmt::Debug for Stretches<'_, '_> {
+    fn fmt(&self, f: &mut std::fmt::Formatter<'_>) -> std::fmt::Result {
+        f.debug_struct("Stretches").field("left", &self.len()).finish_non_exhaustive()
     }
 }
 
@@ -657,29 +730,75 @@ impl<'b> Iterator for Deliveries<'b> {
 
 impl std::iter::FusedIterator for Deliveries<'_> {}
 
-/// The fields of an allocation structure.
+/// The fields of an allocation structure. Numbers are as wide as a caller counts; [`write_allocation`] refuses those that their fields do
+/// not hold.
 #[derive(Clone, Copy, PartialEq, Eq, Debug)]
 pub struct Allocation {
+    /// 14 bits.
     pub alloc: AllocId,
     pub dbru: bool,
     pub ploamu: bool,
-    pub start: u16,
-    pub grant: u16,
+    /// StartTime, 16 bits; 65,535 continues a burst.
+    pub start: u32,
+    /// GrantSize in words of 4 bytes, 16 bits.
+    pub grant: u32,
     pub fwi: bool,
-    pub profile: u8,
+    /// 2 bits.
+    pub profile: u32,
 }
 
-/// HLend at the start of a target.
-pub fn write_hlend(bwmap: u16, ploam: u8, target: &mut [u8]) -> Result<(), Error> {
+/// HLend at the start of a target: how many allocation structures, at most 2,047, and how many messages, at most 255.
+/// [`Error::NotWritten`] where there are more, or the target has fewer than 4 bytes; it is then as it was.
+///
+/// ```
+/// use lingbarrow::{write_hlend, Error};
+///
+/// let mut target = [0xee; 4];
+/// assert_eq!(write_hlend(2048, 0, &mut target), Err(Error::NotWritten));
+/// assert_eq!(write_hlend(0, 256, &mut target), Err(Error::NotWritten));
+/// assert_eq!(target, [0xee; 4]);
+/// write_hlend(0, 1, &mut target)?;
+/// assert_eq!(target, [0x00, 0x00, 0x2a, 0x73]);
+/// # Ok::<(), lingbarrow::Error>(())
+/// ```
+pub fn write_hlend(bwmap: u32, ploam: u32, target: &mut [u8]) -> Result<(), Error> {
     done(raw::write_hlend(bwmap, ploam, target))
 }
 
-/// An allocation structure at the start of a target.
+/// An allocation structure at the start of a target. [`Error::NotWritten`] where a number is too wide for its field, or the target has
+/// fewer than 8 bytes; it is then as it was.
+///
+/// ```
+/// use lingbarrow::{write_allocation, AllocId, Allocation, Error};
+///
+/// let mut target = [0xee; 8];
+/// let fits = Allocation { alloc: AllocId(16_383), dbru: true, ploamu: false, start: 65_535, grant: 65_535, fwi: false, profile: 3 };
+/// let wide = [Allocation { alloc: AllocId(16_384), ..fits }, Allocation { start: 65_536, ..fits }, Allocation { profile: 4, ..fits }];
+/// for a in wide {
+///     assert_eq!(write_allocation(a, &mut target), Err(Error::NotWritten));
+/// }
+/// assert_eq!(target, [0xee; 8]);
+/// write_allocation(fits, &mut target)?;
+/// # Ok::<(), lingbarrow::Error>(())
+/// ```
 pub fn write_allocation(a: Allocation, target: &mut [u8]) -> Result<(), Error> {
     done(raw::write_allocation(a.alloc.0, a.dbru, a.ploamu, a.start, a.grant, a.fwi, a.profile, target))
 }
 
-/// An XGEM frame at the start of a target: header, SDU and padding.
-pub fn write_xgem_frame(key: u8, port: PortId, options: u32, last: bool, sdu: &[u8], target: &mut [u8]) -> Result<(), Error> {
+/// An XGEM frame at the start of a target: header, SDU and padding. [`Error::NotWritten`] where the key index is over 3, the options have
+/// more than 18 bits or the SDU more than 16,383 bytes, or the target is shorter than the frame; it is then as it was.
+///
+/// ```
+/// use lingbarrow::{write_xgem_frame, Error, PortId};
+///
+/// let mut target = [0xee; 16];
+/// assert_eq!(write_xgem_frame(4, PortId(2000), 0, true, b"SDU", &mut target), Err(Error::NotWritten));
+/// assert_eq!(write_xgem_frame(0, PortId(2000), 1 << 18, true, b"SDU", &mut target), Err(Error::NotWritten));
+/// assert_eq!(target, [0xee; 16]);
+/// write_xgem_frame(3, PortId(2000), 0, true, b"SDU", &mut target)?;
+/// assert_eq!(&target[8..], b"SDUUUUUU");
+/// # Ok::<(), lingbarrow::Error>(())
+/// ```
+pub fn write_xgem_frame(key: u32, port: PortId, options: u32, last: bool, sdu: &[u8], target: &mut [u8]) -> Result<(), Error> {
     done(raw::write_xgem_frame(key, port.0, options, last, sdu, target))
 }

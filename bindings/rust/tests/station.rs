@@ -1,7 +1,7 @@
 //! The wrappers over whole runs: the bench run's sample, line for line, and what the types are for.
 use lingbarrow::{
-    at, message, write_hlend, write_xgem_frame, Activation, AllocId, Arriving, Buffers, Completion, Error, OnuId, Owed, Port, PortId, Station, MEMORY_BYTES,
-    SAVED_BYTES,
+    at, message, places, write_hlend, write_xgem_frame, Activation, AllocId, Arriving, Buffers, Completion, Error, OnuId, Owed, Port, PortId, Station, MEMORY_BYTES,
+    SAVED_BYTES, STATE_VERSION,
 };
 
 const SERIAL: [u8; 8] = *b"LBRW\x00\x00\x00\x01";
@@ -65,6 +65,9 @@ fn stretches_are_those_of_the_state_in_which_the_frame_arrives() {
     let arriving = station.arriving(&frame);
     let stretches = [0, 1, 2].map(|k| arriving.stretch(k).unwrap());
     assert_eq!(stretches, [None, Some(&b"a whole."[..]), None]);
+    let mut lent = vec![0; places(frame.len())];
+    assert_eq!(arriving.stretches(&mut lent).unwrap().collect::<Vec<_>>(), stretches[..2]);
+    assert_eq!(arriving.stretches(&mut lent[1..]).err(), Some(Error::BufferTooShort));
     assert_eq!(receive(arriving, &mut buffers), [(5, b"a first and last".to_vec()), (5, b"a whole.".to_vec())]);
     assert_eq!(station.arriving(&frame[..6]).stretch(0), Err(Error::FrameLengthUnfit));
 }
@@ -92,7 +95,9 @@ fn what_a_station_holds() {
     assert_eq!(&station.memory()[..8], b"a first ");
     station.lost();
     assert_eq!(station.activation(), Activation::Intermittent(800));
+    assert_eq!((station.activation().time_left(), station.carried_words()), (Some(800), 0));
     assert_eq!(station.activation().number(), station.state_bytes()[at::STATE]);
+    assert_eq!((station.state_version(), station.state_bytes()[at::VERSION]), (STATE_VERSION, STATE_VERSION));
     assert_eq!(station.ports().next(), Some(port(5, 0, 0, true)));
 }
 
@@ -120,7 +125,9 @@ fn what_is_no_saved_station_is_refused() {
     assert!(Station::restore(&saved).is_ok());
     assert_eq!(Station::restore(&saved[1..]), Err(Error::StateOutOfRange));
     assert_eq!(Station::restore(&[&saved[..], &[0]].concat()), Err(Error::StateOutOfRange));
-    for (at, octet) in [(at::STATE, 3), (at::ALLOC_COUNT, 17), (at::KEY_HELD, 2), (at::OWED, 3), (at::RESERVED, 1)] {
+    // an older library's first octet was the state's number
+    let versions = [0, 1, 2, 4, 5, 6, 7, STATE_VERSION + 1].map(|version| (at::VERSION, version));
+    for (at, octet) in [(at::STATE, 3), (at::ALLOC_COUNT, 17), (at::KEY_HELD, 2), (at::OWED, 3)].into_iter().chain(versions) {
         let mut other = saved.clone();
         other[at] = octet;
         assert_eq!(Station::restore(&other), Err(Error::StateOutOfRange), "octet {at}");
@@ -134,6 +141,7 @@ fn the_sample_of_the_bench_run() {
     let lines: Vec<&str> = include_str!("../../../crates/trace/stdout").lines().collect();
     assert_eq!((records.len(), lines.len()), (11, 12));
     let mut buffers = Buffers::new(1020);
+    let mut lent = [0; places(1020)];
     let mut stations = [Station::power_on([0; 8], [0; 36]), Station::power_on([0; 8], [0; 36])];
     for turn in 0..=records.len() {
         for (k, station) in stations.iter_mut().enumerate() {
@@ -143,7 +151,16 @@ fn the_sample_of_the_bench_run() {
             if records[n][0] == 0 {
                 station.lost();
             } else {
-                said = match station.arriving(&records[n][4..]).receive(0, &mut buffers) {
+                let arriving = station.arriving(&records[n][4..]);
+                let each = |k| arriving.stretch(k);
+                match arriving.stretches(&mut lent) {
+                    Ok(all) => {
+                        assert_eq!(each(all.len()), Ok(None));
+                        assert!(all.enumerate().all(|(k, sdu)| each(k) == Ok(sdu)));
+                    }
+                    Err(e) => assert_eq!(each(0), Err(e)),
+                }
+                said = match arriving.receive(0, &mut buffers) {
                     Ok(r) => {
                         assert_eq!(r.records().filter(|r| r.is_head() && r.ploamu()).count(), r.replies().len());
                         let bytes = r.deliveries().map(|d| 4 + d.bytes.len()).sum();

@@ -16,3 +16,7 @@ benchPorts = record { ids = portsFrom 16 3000; lengths = replicate 17 0; waiting
 
 abbrev pub ownPort : PortId
 ownPort = record { 0 = 5 }
+
+-- where the payload begins
+abbrev pub hlendOctets : ℕ
+hlendOctets = 4

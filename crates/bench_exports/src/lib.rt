@@ -2,6 +2,7 @@
 mod map_walk;
 mod message_checks;
 mod payload_walk;
+mod stretch_search;
 
 use hec::Reading32;
 use hec::Reading64;

@@ -15,7 +15,7 @@ use Rattle.link.specs.Link.{heldAllocs}
 use Rattle.ids.specs.Ids.{assignableAlloc, sameAlloc}
 use Rattle.validity.specs.Ranges.{inRange, identityFits, allocsFit, portsFit, partialsFit, timerFits, proper}
 use Rattle.validity.proofs.Tests.{both}
-use Rattle.station.specs.declared.answers.Outcome.{Outcome}
+use Rattle.station.specs.declared.Outcome.{Outcome}
 use Rattle.layout.specs.Layout.{decoded, stored}
 use Rattle.layout.proofs.RoundTrips.{read-stored}
 use Rattle.boundary.specs.Calls.{by}

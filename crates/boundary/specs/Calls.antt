@@ -2,18 +2,19 @@
 -- Assumes nothing.
 use Prim.Native.Nat.{ℕ}
 use mathlib.Core.Path.{_≡_}
-use mathlib.Core.Bool.{_&&_, cond}
+use mathlib.Core.Bool.{Bool, true, false, _&&_, not, cond}
 use mathlib.Core.List.{List}
 use lib.Dec.{leb}
 use lib.ListN.{length, take}
 use Rattle.xgem.specs.Reads.{Found, fields, unreadable, short}
 use Rattle.station.specs.declared.Station.{Station}
-use Rattle.station.specs.declared.answers.Answer.the-variants.{Done, StateOutOfRange, BufferTooShort}
-use Rattle.station.specs.Answers.{answerNumber}
+use Rattle.answers.specs.declared.Answer.the-variants.{Done, StateOutOfRange, BufferTooShort}
+use Rattle.answers.specs.Answers.{answerNumber}
 use Rattle.station.specs.Limits.{serialOctets, registrationOctets}
 use Rattle.station.specs.Station.{powerOn}
 use Rattle.link.specs.Limits.{keyOctets}
-use Rattle.station.specs.declared.answers.Outcome.{Outcome}
+use Rattle.station.specs.declared.Outcome.{Outcome}
+use Rattle.validity.specs.Ranges.{inRange}
 use Rattle.host.specs.Host.{afterAdd, afterRemove, afterKey}
 use Rattle.engine.specs.Lods.{lostLeft}
 use Rattle.layout.specs.Layout.{stateBytes, decoded, stored}
@@ -37,6 +38,14 @@ by (fields s) call b = record { answer = answerNumber (call s .answer); state = 
 by unreadable call b = refused (answerNumber StateOutOfRange) b
 by short call b = refused (answerNumber BufferTooShort) b
 
+-- 1, "state out of range", comes before 3, "a buffer too short", for a call whose own buffer has room or not
+abbrev pub asked : Bool → Station → Outcome
+asked room s = record { answer = cond (not (inRange s)) StateOutOfRange (cond (not room) BufferTooShort Done); station = s }
+
+-- whether octets are those of a state in range: this call leaves nothing but its answer
+unfoldable pub inRangeOn : List ℕ → ℕ
+inRangeOn b = by (decoded b) (asked true) b .answer
+
 unfoldable pub lostOn : List ℕ → StateLeft
 lostOn b = by (decoded b) lostLeft b
 
@@ -46,9 +55,12 @@ addOn b port = by (decoded b) (λ (s : Station). afterAdd s (record { 0 = port }
 unfoldable pub removeOn : List ℕ → ℕ → StateLeft
 removeOn b port = by (decoded b) (λ (s : Station). afterRemove s (record { 0 = port })) b
 
--- a key has sixteen octets; one that is too short is a buffer too short, before the state is looked at
+-- a key has sixteen octets; one that is too short is a buffer too short
+unfoldable pub keyLeft : Station → List ℕ → Outcome
+keyLeft s key = cond (leb keyOctets (length key)) (afterKey s (take keyOctets key)) (asked false s)
+
 unfoldable pub keyOn : List ℕ → List ℕ → StateLeft
-keyOn b key = cond (leb keyOctets (length key)) (by (decoded b) (λ (s : Station). afterKey s (take keyOctets key)) b) (refused (answerNumber BufferTooShort) b)
+keyOn b key = by (decoded b) (λ (s : Station). keyLeft s key) b
 
 -- power-on has no refusal but that of a buffer too short: eight octets of serial number, thirty-six of Registration ID
 unfoldable pub powerOnIn : List ℕ → List ℕ → List ℕ → StateLeft

@@ -2,15 +2,19 @@
 -- Assumes nothing.
 use Prim.Native.Nat.{ℕ}
 use mathlib.Core.Path.{_≡_}
-use mathlib.Core.Bool.{cond}
+use mathlib.Core.Bool.{Bool, false, cond}
 use mathlib.Core.List.{List, [], _∷_}
 use lib.Dec.{leb}
 use lib.ListN.{length}
 use Rattle.xgem.specs.Reads.{Found, fields, unreadable, short}
 use Rattle.xgem.specs.Writes.{put}
 use Rattle.station.specs.declared.Station.{Station}
-use Rattle.station.specs.declared.answers.Answer.the-variants.{StateOutOfRange, BufferTooShort}
-use Rattle.station.specs.Answers.{answerNumber}
+use Rattle.answers.specs.declared.Answer.{Answer}
+use Rattle.answers.specs.declared.Answer.the-variants.{Done, StateOutOfRange, BufferTooShort}
+use Rattle.answers.specs.Answers.{answerNumber}
+use Rattle.downstream.specs.declared.Opening.{Opening}
+use Rattle.downstream.specs.declared.Opening.the-variants.{Refused, Unread, Opened}
+use Rattle.downstream.specs.Opening.{opening}
 use Rattle.frame.specs.declared.Counts.{Counts}
 use Rattle.frame.specs.Given.{Arrival, Lent}
 use Rattle.frame.specs.Frame.{FrameLeft, noCounts, frameLeft}
@@ -23,6 +27,21 @@ countNumbers = 3
 
 abbrev pub placeNumbers : ℕ
 placeNumbers = 2
+
+-- ---- the room for what comes back, one more buffer that can be too short
+
+abbrev pub answerBy : Opening → Answer
+answerBy (Refused answer) = answer
+answerBy (Unread answer) = answer
+answerBy (Opened h) = Done
+
+-- "Tested in the order of the numbers": as a frame is opened, 1 and 2 come before 3
+abbrev pub openedBy : Found Station → List ℕ → Bool → ℕ
+openedBy (fields s) f room = answerNumber (answerBy (opening s f room))
+openedBy unreadable f room = answerNumber StateOutOfRange
+openedBy short f room = answerNumber BufferTooShort
+
+-- ---- the frame call
 
 -- the answer's number, and what every lent buffer then holds
 pub record BuffersLeft : Type 0 where
@@ -57,13 +76,15 @@ frameBy short b a counts lent = refusedFrame (answerNumber BufferTooShort) b cou
 unfoldable pub frameOn : List ℕ → Arrival → List ℕ → Lent → BuffersLeft
 frameOn b a counts lent =
     cond (leb countNumbers (length counts)) (frameBy (decoded b) b a counts lent)
-    (record { answer = answerNumber BufferTooShort; state = b; counts = counts; lent = lent })
+    (record { answer = openedBy (decoded b) (a .octets) false; state = b; counts = counts; lent = lent })
 
 -- the whole contract: of the answer's number and of the buffers at exit
 abbrev pub BuffersAre : ℕ → List ℕ → List ℕ → Lent → BuffersLeft → Type 0
 BuffersAre answer state counts lent left = record { answer = answer; state = state; counts = counts; lent = lent } ≡ left
 
--- the stretch as its offset in the frame and its length
+-- ---- the stretch
+
+-- as its offset in the frame and its length
 pub record PlaceLeft : Type 0 where
   pub answer : ℕ
   pub place : List ℕ
@@ -76,9 +97,10 @@ placeBy (fields s) f k place = placed (answerNumber (stretchPlace s f k .answer)
 placeBy unreadable f k place = placed (answerNumber StateOutOfRange) place 0 0
 placeBy short f k place = placed (answerNumber BufferTooShort) place 0 0
 
+-- without room for the place nothing is changed
 unfoldable pub placeOn : List ℕ → List ℕ → ℕ → List ℕ → PlaceLeft
 placeOn b f k place =
-    cond (leb placeNumbers (length place)) (placeBy (decoded b) f k place) (record { answer = answerNumber BufferTooShort; place = place })
+    cond (leb placeNumbers (length place)) (placeBy (decoded b) f k place) (record { answer = openedBy (decoded b) f false; place = place })
 
 abbrev pub PlaceIs : ℕ → List ℕ → PlaceLeft → Type 0
 PlaceIs answer place left = record { answer = answer; place = place } ≡ left

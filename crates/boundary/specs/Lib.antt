@@ -1,3 +1,4 @@
 pub mod Calls
 pub mod Frames
+pub mod Stretches
 pub mod Writers

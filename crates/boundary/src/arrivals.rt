@@ -2,17 +2,23 @@
 ghost use mathlib.Core.Path.{_≡_};
 ghost use mathlib.Core.List.{[], _∷_};
 ghost use Prim.Native.Nat.{_≤_};
+ghost use lib.Dec.{leb};
 ghost use lib.ListN.{length};
 ghost use Rattle.xgem.specs.Writes.{put};
+ghost use Rattle.answers.specs.Answers.{answerNumber};
 ghost use Rattle.frame.specs.Given.{arriving, lending};
-ghost use Rattle.boundary.specs.Frames.{BuffersAre, PlaceIs, countNumbers, placeNumbers, counted, frameOn, placeOn};
+ghost use Rattle.layout.specs.Layout.{decoded};
+ghost use Rattle.boundary.specs.Frames.{BuffersAre, PlaceIs, countNumbers, placeNumbers, answerBy, openedBy, counted, frameOn, placeOn};
 use super::states;
+use downstream::Opening;
 use frame::Counts;
 use layout::Contents;
 
-const STATE_OUT_OF_RANGE: u8 = 1;
+const DONE: u8 = answers::DONE;
 
-const BUFFER_TOO_SHORT: u8 = 3;
+const STATE_OUT_OF_RANGE: u8 = answers::STATE_OUT_OF_RANGE;
+
+const BUFFER_TOO_SHORT: u8 = answers::BUFFER_TOO_SHORT;
 
 const COUNTS: usize = 3;
 
@@ -35,6 +41,34 @@ fn put_place(place: &mut [usize], at: usize, bytes: usize)
     place[1] = bytes;
 }
 
+fn answer_by(o: Opening) -> u8
+    ensures { λ r. ⌜ r ≡ answerNumber (answerBy o) ⌝ }
+{
+    match o {
+        Opening::Refused(answer) => answer.number(),
+        Opening::Unread(answer) => answer.number(),
+        Opening::Opened(_) => DONE,
+    }
+}
+
+// The answer to a frame where what comes back has room for so many numbers and needs so many. A call that has too few asks for it;
+// that the room is tested here again leaves the way of all others as it is without that question (docs/PERFORMANCE.md).
+pub(crate) fn opened(state: &[u8], frame: &[u8], have: usize, need: usize) -> u8
+    ensures { λ r. ⌜ r ≡ openedBy (decoded (now (state .entry))) (now (frame .entry)) (leb need have) ⌝ }
+{
+    let read = layout::read_state(state);
+    let contents = read.contents;
+    let s = read.station;
+    match contents {
+        Contents::Held => {
+            let valid = engine::in_range(s);
+            answer_by(downstream::open(valid, frame, need <= have))
+        }
+        Contents::Unreadable => STATE_OUT_OF_RANGE,
+        Contents::Short => BUFFER_TOO_SHORT,
+    }
+}
+
 // A frame has arrived. The counts are those of records in the plan, of replies, and of bytes in the deliveries.
 #[no_mangle]
 pub extern "C" fn lingbarrow_frame(
@@ -50,7 +84,7 @@ pub extern "C" fn lingbarrow_frame(
     ensures { λ r. ⌜ BuffersAre r (now (state .exit)) (now (counts .exit)) (lending (now (memory .exit)) (now (plan .exit)) (now (replies .exit)) (now (deliveries .exit))) (frameOn (now (state .entry)) (arriving (now (frame .entry)) «random_delay») (now (counts .entry)) (lending (now (memory .entry)) (now (plan .entry)) (now (replies .entry)) (now (deliveries .entry)))) ⌝ }
 {
     if counts.len() < COUNTS {
-        return BUFFER_TOO_SHORT;
+        return opened(state, frame, counts.len(), COUNTS);
     }
     let read = layout::read_state(state);
     let contents = read.contents;
@@ -86,7 +120,7 @@ pub extern "C" fn lingbarrow_stretch(
     ensures { λ r. ⌜ PlaceIs r (now (place .exit)) (placeOn (now (state .entry)) (now (frame .entry)) k (now (place .entry))) ⌝ }
 {
     if place.len() < PLACE {
-        return BUFFER_TOO_SHORT;
+        return opened(state, frame, place.len(), PLACE);
     }
     let read = layout::read_state(state);
     let contents = read.contents;

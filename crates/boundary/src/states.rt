@@ -4,21 +4,23 @@ ghost use Prim.Native.Nat.{_≤_};
 ghost use lib.ListN.{length, take};
 ghost use Rattle.link.specs.Limits.{keyOctets};
 ghost use Rattle.station.specs.Limits.{serialOctets, registrationOctets};
-ghost use Rattle.station.specs.Answers.{answerNumber};
+ghost use Rattle.answers.specs.Answers.{answerNumber};
 ghost use Rattle.layout.specs.Layout.{stored};
-ghost use Rattle.boundary.specs.Calls.{StateIs, lostOn, addOn, removeOn, keyOn, powerOnIn};
+ghost use Rattle.boundary.specs.Calls.{StateIs, asked, inRangeOn, lostOn, addOn, removeOn, keyOn, powerOnIn};
+use answers::Answer;
 use ids::PortId;
 use layout::Contents;
 use link::KEY_OCTETS;
+use station::Outcome;
 use station::Station;
-use station::answers::Answer;
-use station::answers::Outcome;
 use station::limits::REGISTRATION_OCTETS;
 use station::limits::SERIAL_OCTETS;
 
-const STATE_OUT_OF_RANGE: u8 = 1;
+const DONE: u8 = answers::DONE;
 
-const BUFFER_TOO_SHORT: u8 = 3;
+const STATE_OUT_OF_RANGE: u8 = answers::STATE_OUT_OF_RANGE;
+
+const BUFFER_TOO_SHORT: u8 = answers::BUFFER_TOO_SHORT;
 
 fn serial_of(c: &[u8]) -> [u8; SERIAL_OCTETS]
     requires { ⌜ serialOctets ≤ length (now c) ⌝ }
@@ -63,6 +65,19 @@ fn settle(o: Outcome, state: &mut [u8]) -> u8
     put_back(answer, station, state)
 }
 
+// 1 comes before 3, for a call whose own buffer has room or not.
+fn asked(room: bool, s: Station) -> u8
+    ensures { λ r. ⌜ r ≡ answerNumber (asked room s .answer) ⌝ }
+{
+    if !engine::in_range(s) {
+        return STATE_OUT_OF_RANGE;
+    }
+    if !room {
+        return BUFFER_TOO_SHORT;
+    }
+    DONE
+}
+
 // A station that is powered on, in O1 with nothing held.
 #[no_mangle]
 pub extern "C" fn lingbarrow_power_on(state: &mut [u8], serial: &[u8], registration: &[u8]) -> u8
@@ -79,7 +94,22 @@ pub extern "C" fn lingbarrow_power_on(state: &mut [u8], serial: &[u8], registrat
     }
     let s = Station::power_on(serial_of(serial), registration_of(registration));
     layout::write_state(s, state);
-    0
+    DONE
+}
+
+// Whether octets are those of a state in range.
+#[no_mangle]
+pub extern "C" fn lingbarrow_in_range(state: &[u8]) -> u8
+    ensures { λ r. ⌜ r ≡ inRangeOn (now (state .entry)) ⌝ }
+{
+    let read = layout::read_state(state);
+    let contents = read.contents;
+    let s = read.station;
+    match contents {
+        Contents::Held => asked(true, s),
+        Contents::Unreadable => STATE_OUT_OF_RANGE,
+        Contents::Short => BUFFER_TOO_SHORT,
+    }
 }
 
 // A frame time in which no frame arrived.
@@ -131,15 +161,16 @@ pub extern "C" fn lingbarrow_remove_port(state: &mut [u8], port: u16) -> u8
 pub extern "C" fn lingbarrow_give_key(state: &mut [u8], key: &[u8]) -> u8
     ensures { λ r. ⌜ StateIs r (now (state .exit)) (keyOn (now (state .entry)) (now (key .entry))) ⌝ }
 {
-    if key.len() < KEY_OCTETS {
-        return BUFFER_TOO_SHORT;
-    }
-    let octets = key_of(key);
     let read = layout::read_state(state);
     let contents = read.contents;
     let s = read.station;
     match contents {
-        Contents::Held => settle(host::give_key(s, octets), state),
+        Contents::Held => {
+            if key.len() < KEY_OCTETS {
+                return asked(false, s);
+            }
+            settle(host::give_key(s, key_of(key)), state)
+        }
         Contents::Unreadable => STATE_OUT_OF_RANGE,
         Contents::Short => BUFFER_TOO_SHORT,
     }

@@ -1,45 +1,49 @@
-// The writers of HLend, allocation structures and XGEM frames.
+// The writers of HLend, allocation structures and XGEM frames. A number that its field's type cannot hold is too wide for the field;
+// whether one that it holds fits, the engine's writers test.
 ghost use mathlib.Core.Path.{_≡_};
-ghost use Rattle.xgem.specs.Writes.{number};
+ghost use Rattle.answers.specs.Answers.{answerNumber};
 ghost use Rattle.boundary.specs.Writers.{Target, hlendIn, allocationIn, xgemFrameIn};
+use answers::Answer;
 use ids::AllocId;
 use ids::PortId;
-use xgem::Written;
 use xgem::XgemHeader;
 use xgtc::allocation::Allocation;
 use xgtc::hlend::Hlend;
 
-const NOT_WRITTEN: u8 = 11;
+const NOT_WRITTEN: u8 = answers::NOT_WRITTEN;
 
-fn written_number(w: Written) -> u8
-    ensures { λ r. ⌜ r ≡ number w ⌝ }
+fn written_number(answer: Answer) -> u8
+    ensures { λ r. ⌜ r ≡ answerNumber answer ⌝ }
 {
-    match w {
-        Written::Done => 0,
-        Written::Refused => NOT_WRITTEN,
-    }
+    answer.number()
 }
 
 #[no_mangle]
-pub extern "C" fn lingbarrow_write_hlend(bwmap: u16, ploam: u8, target: &mut [u8]) -> u8
+pub extern "C" fn lingbarrow_write_hlend(bwmap: u32, ploam: u32, target: &mut [u8]) -> u8
     ensures { λ r. ⌜ _≡_ {A = Target} (record { answer = r; target = now (target .exit) }) (hlendIn bwmap ploam (now (target .entry))) ⌝ }
 {
+    if 0xffff < bwmap {
+        return NOT_WRITTEN;
+    }
+    if 0xff < ploam {
+        return NOT_WRITTEN;
+    }
     let h = Hlend {
-        bwmap: bwmap,
-        ploam: ploam,
+        bwmap: bwmap as u16,
+        ploam: ploam as u8,
     };
     written_number(xgtc::hlend::write_hlend(h, target))
 }
 
 #[no_mangle]
 pub extern "C" fn lingbarrow_write_allocation(
-    alloc: u16,
-    dbru: u8,
-    ploamu: u8,
-    start: u16,
-    grant: u16,
-    fwi: u8,
-    profile: u8,
+    alloc: u32,
+    dbru: u32,
+    ploamu: u32,
+    start: u32,
+    grant: u32,
+    fwi: u32,
+    profile: u32,
     target: &mut [u8],
 ) -> u8
     ensures { λ r. ⌜ _≡_ {A = Target} (record { answer = r; target = now (target .exit) }) (allocationIn alloc dbru ploamu start grant fwi profile (now (target .entry))) ⌝ }
@@ -53,25 +57,37 @@ pub extern "C" fn lingbarrow_write_allocation(
     if 2 <= fwi {
         return NOT_WRITTEN;
     }
-    let id = AllocId(alloc);
+    if 0xffff < alloc {
+        return NOT_WRITTEN;
+    }
+    if 0xffff < start {
+        return NOT_WRITTEN;
+    }
+    if 0xffff < grant {
+        return NOT_WRITTEN;
+    }
+    if 0xff < profile {
+        return NOT_WRITTEN;
+    }
+    let id = AllocId(alloc as u16);
     let a = Allocation {
         alloc: id,
         dbru: dbru == 1,
         ploamu: ploamu == 1,
-        start: start,
-        grant: grant,
+        start: start as u16,
+        grant: grant as u16,
         fwi: fwi == 1,
-        profile: profile,
+        profile: profile as u8,
     };
     written_number(xgtc::allocation::write_allocation(a, target))
 }
 
 #[no_mangle]
 pub extern "C" fn lingbarrow_write_xgem_frame(
-    key: u8,
-    port: u16,
+    key: u32,
+    port: u32,
     options: u32,
-    last: u8,
+    last: u32,
     sdu: &[u8],
     target: &mut [u8],
 ) -> u8
@@ -80,10 +96,16 @@ pub extern "C" fn lingbarrow_write_xgem_frame(
     if 2 <= last {
         return NOT_WRITTEN;
     }
-    let id = PortId(port);
+    if 0xff < key {
+        return NOT_WRITTEN;
+    }
+    if 0xffff < port {
+        return NOT_WRITTEN;
+    }
+    let id = PortId(port as u16);
     let x = XgemHeader {
         pli: 0,
-        key: key,
+        key: key as u8,
         port: id,
         options: options,
         last: last == 1,

@@ -6,8 +6,9 @@ use mathlib.Core.List.{List, [], _∷_}
 use native.Mathlib.Omega.{arith}
 use native.Mathlib.Numerals.{add-one, add-four}
 use native.Mathlib.Nat.{add-zero}
-use lib.ListN.{length}
+use lib.ListN.{length, take, drop}
 use lib.Seq.{sets}
+use borrow.Rule.Slice.PartMut.{putMid}
 use Rattle.xgtc.specs.declared.allocation.Allocation.{Allocation}
 use Rattle.entries.specs.declared.Own.{Own}
 use Rattle.entries.specs.declared.Verdict.{Verdict}
@@ -16,7 +17,7 @@ use Rattle.entries.specs.declared.Standing.the-variants.{Apart, Head, More}
 use Rattle.entries.specs.Standings.{standing}
 use Rattle.series.specs.Series.{entryAt, entryCount, run, seriesOf, grants}
 use Rattle.plan.specs.Records.{headFlags, moreFlags, planRecord, placed}
-use Rattle.plan.proofs.Placed.{placed-whole}
+use Rattle.plan.proofs.Placed.{placed-part}
 use Rattle.plan.specs.Plan.{moreNumbers, seriesNumbers}
 use Rattle.bwmap.specs.Turns.{rest, tally, allocationAt, allocationsFrom}
 use Rattle.series.proofs.Runs.{run-nil, run-head, run-apart}
@@ -109,7 +110,8 @@ write-done p at h l e = rw e
 
 -- a head's record, and behind it those of the entries that continue its burst
 pub write-head
-    : (p q r : List ℕ) (at f : ℕ) (h : Allocation) (l : List Allocation) → at + 4 ≤ length p → f ≡ headFlags h → q ≡ placed p at h f (h .start)
-    → r ≡ sets q (at + 4) (moreNumbers h l) → r ≡ sets p at (seriesNumbers (record { head = h; more = l }))
+    : (p q r : List ℕ) (at k f : ℕ) (h : Allocation) (l : List Allocation) → at + 4 ≤ length p → k ≡ 4 → f ≡ headFlags h
+    → q ≡ putMid at k p (placed (take k (drop at p)) 0 h f (h .start)) → r ≡ sets q (at + 4) (moreNumbers h l)
+    → r ≡ sets p at (seriesNumbers (record { head = h; more = l }))
 unfolding seriesNumbers
-write-head p q r at f h l room hf hq hr = hr ∙ rw (hq ∙ placed-whole p at h f (h .start) room, hf, add-four)
+write-head p q r at k f h l room four hf hq hr = hr ∙ rw (hq ∙ placed-part p at k h f (h .start) room four, hf, add-four)

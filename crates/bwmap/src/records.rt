@@ -65,7 +65,8 @@ fn write_more(map: &[u8], from: usize, count: usize, h: Allocation, plan: &mut [
     }
 }
 
-// The records of a whole burst: its head h, and the `count` entries from `from` on that continue it.
+// The records of a whole burst: its head h, and the `count` entries from `from` on that continue it. The head's record goes to a part
+// of its own: there the compiler sees that it has room, and the loop over the map keeps its registers.
 pub(crate) fn write_series(
     map: &[u8],
     from: usize,
@@ -77,6 +78,7 @@ pub(crate) fn write_series(
     requires { ⌜ (from + count ≤ entryCount (now map)) × (at + numbersARecord + numbersARecord * count ≤ length (now plan)) ⌝ }
     ensures { λ r. ⌜ now (plan .exit) ≡ sets (now (plan .entry)) at (seriesNumbers (record { head = h; more = allocationsFrom (now (map .entry)) from count })) ⌝ }
 {
-    plan::write_record(plan, at, h, plan::head_flags(h), h.start);
-    write_more(map, from, count, h, plan, at + plan::NUMBERS_A_RECORD);
+    let end = at + plan::NUMBERS_A_RECORD;
+    plan::write_record(&mut plan[at..end], 0, h, plan::head_flags(h), h.start);
+    write_more(map, from, count, h, plan, end);
 }

@@ -1,3 +1,4 @@
 pub mod Ranging
 pub mod Decisions
 pub mod Acts
+pub mod Sums

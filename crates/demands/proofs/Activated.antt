@@ -53,7 +53,7 @@ use Rattle.demands.proofs.RefutingRuns.{serial, registration, memory, b
 
 -- ---- a signed message acts
 
-signed : List ℕ → List ℕ
+unfoldable pub signed : List ℕ → List ℕ
 signed octets = octets ++ micOf defaultKey Downstream octets
 
 signed-length : (octets : List ℕ) → length octets ≡ coveredOctets → length (signed octets) ≡ messageOctets
@@ -82,19 +82,19 @@ signed-acts s octets h e =
 -- ---- the three messages
 
 -- Assign_ONU-ID to all: 5 to the serial number of zeros
-assignOnu : List ℕ
+unfoldable pub assignOnu : List ℕ
 assignOnu = 3 ∷ 255 ∷ 3 ∷ 1 ∷ 0 ∷ 5 ∷ replicate 34 0
 
 -- Ranging_Time to 5: absolute, 0
-rangingOf : List ℕ
+unfoldable pub rangingOf : List ℕ
 rangingOf = 0 ∷ 5 ∷ 4 ∷ 2 ∷ 1 ∷ replicate 35 0
 
 -- Assign_Alloc-ID to 5: 1024, type 1
-assignAlloc : List ℕ
+unfoldable pub assignAlloc : List ℕ
 assignAlloc = 0 ∷ 5 ∷ 10 ∷ 3 ∷ 4 ∷ 0 ∷ 1 ∷ replicate 33 0
 
 -- the station that the first has in O4, both have in O5, and all three
-identified : Station
+unfoldable pub identified : Station
 identified = identify searching (record { 0 = 5 })
 
 ranged : Station
@@ -120,7 +120,7 @@ given = addAlloc noAllocs (record { 0 = 1024 })
 abbrev pub operating : Station
 operating = stationWith Operation given (clearManagement noPorts)
 
-to-o4 : receive searching (signed assignOnu) ≡ identified
+pub to-o4 : receive searching (signed assignOnu) ≡ identified
 unfolding assignOnu signed identified act isOurs isBroadcast effectOf contentAs assignOnuId applied
 to-o4 = signed-acts searching assignOnu refl refl
 
@@ -134,7 +134,7 @@ to-alloc = signed-acts ranged assignAlloc refl refl
 
 -- ---- the frame of the three
 
-threeMessages : Hlend
+unfoldable pub threeMessages : Hlend
 threeMessages = record { bwmap = 0; ploam = 3 }
 
 behind : List ℕ
@@ -143,7 +143,7 @@ behind = signed assignOnu ++ (signed rangingOf ++ signed assignAlloc)
 pub activating : List ℕ
 activating = 0 ∷ 0 ∷ 126 ∷ 150 ∷ behind
 
-reads-activating : readHlend activating ≡ fields threeMessages
+pub reads-activating : readHlend activating ≡ fields threeMessages
 unfolding activating threeMessages remainderFrom onesIn flips
 reads-activating = rw (le-leb 4 (length activating) (omega arith)) (ap (taken hlendOf) (computed32 0x00007E96 (lit< tt) (word 0x00007E96) refl))
 
@@ -162,7 +162,7 @@ module _ (a b c : List ℕ) (la : length a ≡ 48) (lb : length b ≡ 48) (lc : 
       ∙ ap (λ (n : ℕ). messagesFrom all 0 (n / 48)) three-long
       ∙ ap₂ _∷_ (take-at a (b ++ c) 48 la) (ap₂ _∷_ second (ap₂ _∷_ third refl))
 
-messages-activating : messagesIn (messagesOf threeMessages activating) ≡ signed assignOnu ∷ signed rangingOf ∷ signed assignAlloc ∷ []
+pub messages-activating : messagesIn (messagesOf threeMessages activating) ≡ signed assignOnu ∷ signed rangingOf ∷ signed assignAlloc ∷ []
 unfolding threeMessages activating behind assignOnu rangingOf assignAlloc
 messages-activating =
     three (signed assignOnu) (signed rangingOf) (signed assignAlloc)
@@ -180,7 +180,7 @@ activating-long =
     let n = three-long (signed assignOnu) (signed rangingOf) (signed assignAlloc) (signed-length assignOnu refl) (signed-length rangingOf refl) (signed-length assignAlloc refl) in
     omega arith
 
-handled-activating : Handled searching (arrives activating) lent false (handled searching threeMessages (arrives activating) lent)
+pub handled-activating : Handled searching (arrives activating) lent false (handled searching threeMessages (arrives activating) lent)
 unfolding lostIn lengthFits enough memory buffers threeMessages
 handled-activating =
     record {
@@ -200,7 +200,7 @@ activating-leaves : handled searching threeMessages (arrives activating) lent .o
 unfolding handled done foundBy next plannedIn repliesIn payloadIn threeMessages frameEnd
 activating-leaves = ap (λ (s : Station). frameEnd s false) received-activating
 
-activating-keeps : handled searching threeMessages (arrives activating) lent .lent .memory ≡ memory
+pub activating-keeps : handled searching threeMessages (arrives activating) lent .lent .memory ≡ memory
 unfolding handled done payloadIn
 activating-keeps = refl
 

@@ -4,7 +4,6 @@
 use Prim.Native.Nat.{ℕ, _+_, _<_, _≤_}
 use native.Mathlib.Omega.{arith}
 use mathlib.Core.Path.{_≡_, _∙_, refl, sym, ap, ap₂, subst}
-use mathlib.Core.Logic.{inl}
 use mathlib.Core.Bool.{Bool, true, false, _&&_}
 use mathlib.Core.List.{List, [], _∷_}
 use lib.Dec.{lit<}
@@ -16,12 +15,11 @@ use Rattle.bch.specs.Code.{remainderFrom}
 use Rattle.flips.proofs.FlipRule.{flips}
 use Rattle.xgtc.specs.declared.hlend.Hlend.{Hlend}
 use Rattle.xgtc.specs.Layouts.{hlendOf}
-use Rattle.xgem.specs.Reads.{fields, taken}
+use Rattle.xgem.specs.Reads.{Found, fields, unreadable, short, taken}
 use Rattle.xgtc.specs.Reads.{readHlend}
 use Rattle.station.specs.declared.Activation.the-variants.{SerialNumber}
 use Rattle.station.specs.declared.Station.{Station}
-use Rattle.station.specs.declared.answers.Answer.{Answer}
-use Rattle.station.specs.declared.answers.Answer.the-variants.{Done}
+use Rattle.answers.specs.Answers.{answerNumber}
 use Rattle.station.specs.Limits.{serialOctets, registrationOctets}
 use Rattle.station.specs.Station.{powerOn, enter}
 use Rattle.validity.specs.Ranges.{inRange}
@@ -36,16 +34,18 @@ use Rattle.bwmap.specs.Promises.{Account, done as none-left, plans, too-long, o
 use Rattle.plan.specs.Laser.{Sending, burstsOf}
 use Rattle.invariants.proofs.InRange.{sound-in-range, power-on-sound, enter-sound}
 use Rattle.ledger.specs.Events.{stationOf}
-use Rattle.station.specs.declared.answers.Outcome.{Outcome}
+use Rattle.ledger.specs.Ledger.{holds}
+use Rattle.ledger.proofs.Runs.{ledger-exact}
+use Rattle.station.specs.declared.Outcome.{Outcome}
 use Rattle.downstream.specs.Lengths.{lengthFits}
 use Rattle.frame.specs.Given.{Arrival, Lent, arriving, lending, replyOctets, enough}
 use Rattle.downstream.specs.Partitions.{mapOf}
 use Rattle.station.specs.States.{isOperating}
 use Rattle.frame.specs.Frame.{FrameLeft, ownOf, plannedIn, repliesIn, payloadIn, foundBy, next, done, handled, frameLeft}
-use Rattle.engine.specs.Answers.{lostIn, Handled}
+use Rattle.engine.specs.Answers.{lostIn, Handled, Row}
 use Rattle.engine.proofs.Table.{only}
-use Rattle.demands.specs.Runs.{Call, Buffers, frame, Progress, befell, lend, after, start, runOf}
-use Rattle.demands.specs.Demand3.{sendings, Demand3}
+use Rattle.demands.specs.Runs.{Call, Buffers, frame, Progress, befell, lend, isDone, after, start, runOf}
+use Rattle.demands.specs.Demand3.{sendings, burstsOfRun, carriedInto, Demand3}
 use Rattle.demands.specs.Wrong.{withCalls}
 use Rattle.demands.proofs.Runs.{frame-history}
 
@@ -86,15 +86,21 @@ begun = record { history = refl; station = refl; memory = refl }
 
 -- what the next call finds of what a frame call left, where that answered 0 and wrote no port memory
 pub record Leads (left : FrameLeft) (to : Station) : Type 0 where
-  pub answer : left .outcome .answer ≡ Done
+  pub answer : answerNumber (left .outcome .answer) ≡ 0
   pub station : left .outcome .station ≡ to
   pub memory : left .lent .memory ≡ memory
 
--- what is sent is the series that an account has as planned
+-- what is sent is the series that an account has as planned, where no words are carried
 pub record Asked (right : Station) (m : List ℕ) (bursts : List Sending) : Type 0 where
   pub planned : List Series
   pub are : bursts ≡ burstsOf planned
-  pub account : Account (outset (right .carried)) (seriesOf (standings (ownOf right) m)) planned
+  pub account : Account (outset 0) (seriesOf (standings (ownOf right) m)) planned
+
+-- the HLend that was read
+hlendIn : Found Hlend → Hlend → Hlend
+hlendIn (fields h) other = h
+hlendIn unreadable other = other
+hlendIn short other = other
 
 module _ (call : Station → Arrival → Lent → FrameLeft) (lose : Station → Outcome) where
   module _ (st : Progress) (right own : Station) (k : Stands st right own) (f : List ℕ) where
@@ -109,26 +115,41 @@ module _ (call : Station → Arrival → Lent → FrameLeft) (lose : Station →
         let l = lend st buffers in
         let due : frameLeft (stationOf fresh h) (arrives f) l ≡ frameLeft right (arrives f) lent
         = ap₂ (λ (s : Station) (m : List ℕ). frameLeft s (arrives f) (lending m (buffers .plan) (buffers .replies) (buffers .deliveries))) (k .history) (k .memory) in
-        let answers : call (st .station) (arrives f) l .outcome .answer ≡ frameLeft (stationOf fresh h) (arrives f) l .outcome .answer
-        = ap (λ (x : FrameLeft). x .outcome .answer) same ∙ w .answer ∙ sym (ap (λ (x : FrameLeft). x .outcome .answer) due ∙ r .answer) in
+        let answers : answerNumber (call (st .station) (arrives f) l .outcome .answer) ≡ answerNumber (frameLeft (stationOf fresh h) (arrives f) l .outcome .answer)
+        = ap (λ (x : FrameLeft). answerNumber (x .outcome .answer)) same ∙ w .answer ∙ sym (ap (λ (x : FrameLeft). answerNumber (x .outcome .answer)) due ∙ r .answer) in
         record {
-          history = ap (λ (a : Answer). stationOf fresh (befell a (stationOf fresh h) (arrives f) l h)) answers
+          history = ap (λ (n : ℕ). stationOf fresh (befell n (stationOf fresh h) (arrives f) l h)) answers
               ∙ frame-history fresh h (arrives f) l ∙ ap (λ (x : FrameLeft). x .outcome .station) due ∙ r .station;
           station = ap (λ (x : FrameLeft). x .outcome .station) same ∙ w .station;
           memory = ap (λ (x : FrameLeft). x .lent .memory) same ∙ w .memory;
         }
 
   pub asked : Demand3 (withCalls call lose) → (calls : List Call) (right own : Station) → Stands (runOf (withCalls call lose) serial registration memory calls) right own
-      → (f : List ℕ) (h : Hlend) → readHlend f ≡ fields h → call own (arrives f) lent .outcome .answer ≡ Done → Asked right (mapOf h f) (sendings (call own (arrives f) lent))
-  asked d calls right own k f h reads answer =
+      → burstsOfRun (withCalls call lose) serial registration memory calls ≡ [] → (f : List ℕ) (h : Hlend) → readHlend f ≡ fields h
+      → answerNumber (call own (arrives f) lent .outcome .answer) ≡ 0 → Asked right (mapOf h f) (sendings (call own (arrives f) lent))
+  unfolding hlendIn
+  asked d calls right own k dark f h reads answer =
       let st = runOf (withCalls call lose) serial registration memory calls in
       let e = same st right own k f in
-      let o = d .plans serial registration memory calls (arrives f) buffers (inl (ap (λ (x : FrameLeft). x .outcome .answer) e ∙ answer)) h reads in
+      let o = d .plans serial registration memory calls (arrives f) buffers
+      (ap (λ (x : FrameLeft). isDone (answerNumber (x .outcome .answer))) e ∙ ap isDone answer) in
+      let one : o .hlend ≡ h = ap (λ (x : Found Hlend). hlendIn x h) (sym (o .reads) ∙ reads) in
+      let none : carriedInto (st .times) (burstsOfRun (withCalls call lose) serial registration memory calls) ≡ 0 = rw dark (omega arith) in
       record {
-        planned = o .planned;
-        are = ap sendings (sym e) ∙ o .are;
-        account = subst (λ (s : Station). Account (outset (s .carried)) (seriesOf (standings (ownOf s) (mapOf h f))) (o .planned)) (k .history) (o .account);
+        planned = o .obeys .planned;
+        are = ap sendings (sym e) ∙ o .obeys .are;
+        account = subst (λ (x : Hlend). Account (outset 0) (seriesOf (standings (ownOf right) (mapOf x f))) (o .obeys .planned)) one
+            (subst (λ (s : Station). Account (outset 0) (seriesOf (standings (ownOf s) (mapOf (o .hlend) f))) (o .obeys .planned)) (k .history)
+            (subst (λ (n : ℕ). Account (outset n) (seriesOf (standings (ownOf (stationOf fresh (st .history))) (mapOf (o .hlend) f))) (o .obeys .planned)) none (o .obeys .account)));
       }
+
+  -- what the right station holds, the engine's own does
+  pub must-hold : Demand3 (withCalls call lose) → (calls : List Call) (right own : Station) → Stands (runOf (withCalls call lose) serial registration memory calls) right own
+      → (n : ℕ) → holds right n ≡ true → holds own n ≡ true
+  must-hold d calls right own k n h =
+      let st = runOf (withCalls call lose) serial registration memory calls in
+      let listed = ledger-exact serial registration (st .history) n .1 (ap (λ (s : Station). holds s n) (k .history) ∙ h) in
+      sym (ap (λ (s : Station). holds s n) (k .station)) ∙ d .held serial registration memory calls n .0 listed
 
 -- ---- the account
 
@@ -165,7 +186,7 @@ reads-bare = ap (taken hlendOf) (computed32 0 (lit< tt) (word 0) refl)
 pub led : (s to : Station) (f : List ℕ) (h : Hlend) → Handled s (arrives f) lent false (handled s h (arrives f) lent) → handled s h (arrives f) lent .outcome .station ≡ to
     → handled s h (arrives f) lent .lent .memory ≡ memory → Leads (frameLeft s (arrives f) lent) to
 led s to f h r station kept =
-    let o = only s (arrives f) lent Done (handled s h (arrives f) lent) r in
+    let o = only s (arrives f) lent 0 (handled s h (arrives f) lent) (Row.done r) in
     subst (λ (x : FrameLeft). Leads x to) (o .0) (record { answer = o .1; station = station; memory = kept })
 
 no-payload : (b : Bool) → (b && parse 4 [] .lost) ≡ false
@@ -196,7 +217,7 @@ pub searching-in-range : inRange searching ≡ true
 searching-in-range = sound-in-range searching (enter-sound fresh SerialNumber refl refl (power-on-sound serial registration))
 
 pub left-bare : handled fresh noEntries (arrives bare) lent ≡ frameLeft fresh (arrives bare) lent
-left-bare = only fresh (arrives bare) lent Done (handled fresh noEntries (arrives bare) lent) fresh-handled .0
+left-bare = only fresh (arrives bare) lent 0 (handled fresh noEntries (arrives bare) lent) (Row.done fresh-handled) .0
 
 pub bare-leads : Leads (frameLeft fresh (arrives bare) lent) searching
 unfolding handled done foundBy next plannedIn repliesIn payloadIn bare noEntries frameEnd

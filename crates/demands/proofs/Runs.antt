@@ -8,8 +8,9 @@ use Rattle.xgtc.specs.declared.hlend.Hlend.{Hlend}
 use Rattle.xgem.specs.Reads.{Found, fields}
 use Rattle.xgtc.specs.Reads.{readHlend}
 use Rattle.station.specs.declared.Station.{Station}
-use Rattle.station.specs.declared.answers.Answer.{Answer}
-use Rattle.station.specs.declared.answers.Answer.the-variants.{Done, StateOutOfRange, FrameLengthUnfit, BufferTooShort, HlendUnreadable, HeaderTooLong, DelineationLost, PortOutOfRange, PortHeldOrNotHeld, SlotsTaken, KeyRefused, NotWritten}
+use Rattle.answers.specs.declared.Answer.{Answer}
+use Rattle.answers.specs.declared.Answer.the-variants.{Done, StateOutOfRange, FrameLengthUnfit, BufferTooShort, HlendUnreadable, HeaderTooLong}
+use Rattle.answers.specs.Answers.{answerNumber}
 use Rattle.station.specs.Station.{powerOn}
 use Rattle.validity.specs.Ranges.{inRange}
 use Rattle.timing.specs.Timing.{lostTime}
@@ -23,7 +24,7 @@ use Rattle.ledger.proofs.Frames.{frame-left}
 use Rattle.frame.specs.Given.{Arrival, Lent}
 use Rattle.downstream.specs.Partitions.{messagesOf}
 use Rattle.station.specs.States.{isRanging}
-use Rattle.frame.specs.Frame.{FrameLeft, plannedIn, repliesIn, payloadIn, foundBy, next, done, handled, frameLeft}
+use Rattle.frame.specs.Frame.{FrameLeft, refused, plannedIn, repliesIn, payloadIn, foundBy, next, done, handled, frameLeft}
 use Rattle.engine.specs.Lods.{lostLeft}
 use Rattle.engine.specs.Answers.{Handled, Row}
 use Rattle.engine.proofs.Ranged.{frame-sound, lost-call-sound}
@@ -50,25 +51,23 @@ module _ (first : Station) (h : List Event) (arrival : Arrival) (lent : Lent) wh
       ap (λ (x : Found Hlend). stationOf first (arrived x (stationOf first h) arrival lent h)) (r .reads)
       ∙ handled-left (r .hlend) ∙ sym (ap (λ (x : FrameLeft). x .outcome .station) (r .leaves))
 
-  by-row : (a : Answer) (left : FrameLeft) → Row (stationOf first h) arrival lent a left
-      → stationOf first (befell a (stationOf first h) arrival lent h) ≡ left .outcome .station
-  by-row Done left r = answered false left r
-  by-row StateOutOfRange left (p, e) = sym (ap (λ (x : FrameLeft). x .outcome .station) e)
-  by-row FrameLengthUnfit left (p, q, e) = sym (ap (λ (x : FrameLeft). x .outcome .station) e)
-  by-row BufferTooShort left (p, q, r, e) = sym (ap (λ (x : FrameLeft). x .outcome .station) e)
-  by-row HlendUnreadable left (p, q, e) = sym (ap (λ (x : FrameLeft). x .outcome .station) e)
-  by-row HeaderTooLong left (t, e) = sym (ap (λ (x : FrameLeft). x .outcome .station) e)
-  by-row DelineationLost left r = answered true left r
-  by-row PortOutOfRange left r = absurd r
-  by-row PortHeldOrNotHeld left r = absurd r
-  by-row SlotsTaken left r = absurd r
-  by-row KeyRefused left r = absurd r
-  by-row NotWritten left r = absurd r
+  station-of : (left : FrameLeft) (s : Station) (answer : Answer) → left ≡ refused answer s lent → s ≡ left .outcome .station
+  station-of left s answer e = sym (ap (λ (x : FrameLeft). x .outcome .station) e)
+
+  by-row : (n : ℕ) (left : FrameLeft) → Row (stationOf first h) arrival lent left n
+      → stationOf first (befell n (stationOf first h) arrival lent h) ≡ left .outcome .station
+  by-row n left (Row.done r) = answered false left r
+  by-row n left (Row.state-out-of-range p e) = station-of left _ StateOutOfRange e
+  by-row n left (Row.frame-length-unfit p q e) = station-of left _ FrameLengthUnfit e
+  by-row n left (Row.buffer-too-short p q r e) = station-of left _ BufferTooShort e
+  by-row n left (Row.hlend-unreadable p q e) = station-of left _ HlendUnreadable e
+  by-row n left (Row.header-too-long t e) = station-of left _ HeaderTooLong e
+  by-row n left (Row.delineation-lost r) = answered true left r
 
   pub frame-history
-      : stationOf first (befell (frameLeft (stationOf first h) arrival lent .outcome .answer) (stationOf first h) arrival lent h)
+      : stationOf first (befell (answerNumber (frameLeft (stationOf first h) arrival lent .outcome .answer)) (stationOf first h) arrival lent h)
       ≡ frameLeft (stationOf first h) arrival lent .outcome .station
-  frame-history = by-row (frameLeft (stationOf first h) arrival lent .outcome .answer) (frameLeft (stationOf first h) arrival lent) (table (stationOf first h) arrival lent)
+  frame-history = by-row (answerNumber (frameLeft (stationOf first h) arrival lent .outcome .answer)) (frameLeft (stationOf first h) arrival lent) (table (stationOf first h) arrival lent)
 
 -- ---- every call
 
@@ -80,7 +79,7 @@ pub call-kept : (first : Station) (st : Progress) (c : Call) → Kept first st �
 call-kept first st (frame arrival b) k =
     record {
       same = subst
-          (λ (s : Station). stationOf first (befell (frameLeft s arrival (lend st b) .outcome .answer) (stationOf first (st .history)) arrival (lend st b) (st .history)) ≡ frameLeft s arrival (lend st b) .outcome .station)
+          (λ (s : Station). stationOf first (befell (answerNumber (frameLeft s arrival (lend st b) .outcome .answer)) (stationOf first (st .history)) arrival (lend st b) (st .history)) ≡ frameLeft s arrival (lend st b) .outcome .station)
           (k .same) (frame-history first (st .history) arrival (lend st b));
       sound = frame-sound (st .station) arrival (lend st b) (k .sound);
     }

@@ -1,22 +1,23 @@
 -- The bursts of a run are those of its frame times, one after another, so that no upstream word is taken twice.
 -- Assumes nothing.
-use Prim.Native.Nat.{ℕ, _+_, _*_, _≤_}
+use Prim.Native.Nat.{ℕ, _+_, _-_, _*_, _≤_}
 use native.Mathlib.Omega.{arith}
-use mathlib.Core.Path.{_≡_, _∙_, refl, ap, ap₂}
+use mathlib.Core.Path.{_≡_, _∙_, refl, sym, ap, ap₂}
 use mathlib.Core.Bool.{Bool, true, false, cond}
 use mathlib.Core.List.{List, [], _∷_, _++_}
 use Rattle.xgtc.specs.declared.allocation.Allocation.{Allocation}
 use Rattle.xgtc.specs.declared.hlend.Hlend.{Hlend}
 use Rattle.station.specs.declared.Station.{Station}
-use Rattle.station.specs.declared.answers.Answer.{Answer}
-use Rattle.station.specs.declared.answers.Answer.the-variants.{Done, StateOutOfRange, FrameLengthUnfit, BufferTooShort, HlendUnreadable, HeaderTooLong, DelineationLost, PortOutOfRange, PortHeldOrNotHeld, SlotsTaken, KeyRefused, NotWritten}
+use Rattle.answers.specs.declared.Answer.{Answer}
+use Rattle.answers.specs.declared.Answer.the-variants.{Done, StateOutOfRange, FrameLengthUnfit, BufferTooShort, HlendUnreadable, HeaderTooLong}
+use Rattle.answers.specs.Answers.{answerNumber}
 use Rattle.station.specs.Limits.{upstreamWords}
 use Rattle.timing.specs.Timing.{silence, lostTime, unreadTime}
 use Rattle.messages.specs.Receiving.{receiveAll, messagesIn}
 use Rattle.series.specs.Limits.{ploamuWords}
-use Rattle.series.specs.Series.{Series, grants, wordsOf, burstWords, plannedOf}
+use Rattle.series.specs.Series.{Series, grants, wordsOf, burstWords, lastEnd, plannedOf}
 use Rattle.plan.specs.Laser.{grantsOf, burstOf, burstsOf}
-use Rattle.bwmap.specs.Upstream.{FrameTime, dark, Burst, carry, bursts, takers}
+use Rattle.bwmap.specs.Upstream.{FrameTime, dark, Burst, finish, carry, bursts, takers}
 use Rattle.bwmap.specs.Upstream as upstream
 use Rattle.bwmap.proofs.Once.{times-apart, at-most-one}
 use Rattle.plan.proofs.ReadBack.{laser-obeys}
@@ -24,14 +25,14 @@ use Rattle.invariants.proofs.InRange.{Sound}
 use Rattle.frame.specs.Given.{Arrival, Lent}
 use Rattle.downstream.specs.Partitions.{mapOf, messagesOf}
 use Rattle.station.specs.States.{isRanging}
-use Rattle.frame.specs.Frame.{FrameLeft, ownOf, plannedIn, foundBy, next, done, handled, frameLeft}
+use Rattle.frame.specs.Frame.{FrameLeft, refused, unread, ownOf, plannedIn, foundBy, next, done, handled, frameLeft}
 use Rattle.engine.specs.Answers.{Handled, Row}
 use Rattle.engine.proofs.Ranged.{carried-low}
 use Rattle.engine.proofs.Table.{table}
 use Rattle.demands.specs.Engine.{lingbarrow}
-use Rattle.demands.specs.Runs.{Call, frame, lost, addPort, removePort, giveKey, Buffers, Progress, lend, passes, another, after}
+use Rattle.demands.specs.Runs.{Call, frame, lost, addPort, removePort, giveKey, Buffers, Progress, lend, passes, another, after, run}
 use Rattle.demands.specs.Demand3 as demand
-use Rattle.demands.specs.Demand3.{sendings, granted, placed, burstsBy, burstsFrom}
+use Rattle.demands.specs.Demand3.{sendings, granted, placed, burstsBy, burstsFrom, lastFinish}
 use Rattle.demands.proofs.Carried.{messages-carried, end-carried, add-carried, remove-carried, key-carried}
 use Rattle.demands.proofs.Runs.{Kept, call-kept, lost-history}
 
@@ -85,55 +86,53 @@ module _ (first : Station) (st : Progress) (arrival : Arrival) (b : Buffers) (k 
   left : FrameLeft
   left = frameLeft (st .station) arrival (lend st b)
 
-  answer-passes : (a : Answer) → left .outcome .answer ≡ a → st .times + another (passes (left .outcome .answer)) ≡ st .times + another (passes a)
-  answer-passes a e = ap (λ (x : Answer). st .times + another (passes x)) e
+  abbrev number : ℕ
+  number = answerNumber (frameLeft (st .station) arrival (lend st b) .outcome .answer)
+
+  number-passes : (n : ℕ) → number ≡ n → st .times + another (passes number) ≡ st .times + another (passes n)
+  number-passes n e = ap (λ (x : ℕ). st .times + another (passes x)) e
 
   -- no time passes
-  refused : (a : Answer) → left .outcome .answer ≡ a → passes a ≡ false → sendings left ≡ [] → left .outcome .station ≡ st .station → Step first st (frame arrival b)
+  still-here : (n : ℕ) → number ≡ n → passes n ≡ false → (answer : Answer) → left ≡ refused answer (st .station) (lend st b) → Step first st (frame arrival b)
   unfolding left
-  refused a e p n q =
+  still-here n e p answer q =
       let z : st .times + 0 ≡ st .times = omega arith in
-      still (ap (placed (st .times)) n) (answer-passes a e ∙ ap (λ (x : Bool). st .times + another x) p ∙ z) (ap (λ (x : Station). x .carried) q)
+      still (ap (λ (x : FrameLeft). placed (st .times) (sendings x)) q) (number-passes n e ∙ ap (λ (x : Bool). st .times + another x) p ∙ z)
+      (ap (λ (x : FrameLeft). x .outcome .station .carried) q)
 
   -- a time passes in which nothing is sent
-  unlit : (a : Answer) → left .outcome .answer ≡ a → passes a ≡ true → sendings left ≡ [] → left .outcome .station ≡ unreadTime (st .station) → Step first st (frame arrival b)
+  unlit : (n : ℕ) → number ≡ n → passes n ≡ true → (answer : Answer) → left ≡ unread answer (st .station) (lend st b) → Step first st (frame arrival b)
   unfolding left
-  unlit a e p n q =
-      passed dark (ap (placed (st .times)) n) (answer-passes a e ∙ ap (λ (x : Bool). st .times + another x) p)
-      (ap (λ (x : Station). x .carried) q ∙ unread-carried (st .station) ∙ silent-carried (st .station) k)
+  unlit n e p answer q =
+      passed dark (ap (λ (x : FrameLeft). placed (st .times) (sendings x)) q) (number-passes n e ∙ ap (λ (x : Bool). st .times + another x) p)
+      (ap (λ (x : FrameLeft). x .outcome .station .carried) q ∙ unread-carried (st .station) ∙ silent-carried (st .station) k)
 
-  lit : (d : Bool) (a : Answer) → left .outcome .answer ≡ a → passes a ≡ true → Handled (st .station) arrival (lend st b) d left → Step first st (frame arrival b)
+  lit : (d : Bool) (n : ℕ) → number ≡ n → passes n ≡ true → Handled (st .station) arrival (lend st b) d left → Step first st (frame arrival b)
   unfolding left
-  lit d a e p r =
+  lit d n e p r =
       passed (upstream.frame (ownOf (st .station)) (mapOf (r .hlend) (arrival .octets)))
       (ap (placed (st .times)) (ap sendings (r .leaves) ∙ handled-sent (st .station) (r .hlend) arrival (lend st b)) ∙ placed-are (st .times) (plannedOf (ownOf (st .station)) (mapOf (r .hlend) (arrival .octets)) (st .station .carried)))
-      (answer-passes a e ∙ ap (λ (x : Bool). st .times + another x) p)
+      (number-passes n e ∙ ap (λ (x : Bool). st .times + another x) p)
       (ap (λ (x : FrameLeft). x .outcome .station .carried) (r .leaves) ∙ handled-carried (st .station) (r .hlend) arrival (lend st b))
 
-  by-row : (a : Answer) → left .outcome .answer ≡ a → Row (st .station) arrival (lend st b) a left → Step first st (frame arrival b)
-  unfolding left
-  by-row Done e r = lit false Done e refl r
-  by-row StateOutOfRange e (p, q) = refused StateOutOfRange e refl (ap sendings q) (ap (λ (x : FrameLeft). x .outcome .station) q)
-  by-row FrameLengthUnfit e (p, o, q) = refused FrameLengthUnfit e refl (ap sendings q) (ap (λ (x : FrameLeft). x .outcome .station) q)
-  by-row BufferTooShort e (p, o, r, q) = refused BufferTooShort e refl (ap sendings q) (ap (λ (x : FrameLeft). x .outcome .station) q)
-  by-row HlendUnreadable e (p, o, q) = unlit HlendUnreadable e refl (ap sendings q) (ap (λ (x : FrameLeft). x .outcome .station) q)
-  by-row HeaderTooLong e (t, q) = unlit HeaderTooLong e refl (ap sendings q) (ap (λ (x : FrameLeft). x .outcome .station) q)
-  by-row DelineationLost e r = lit true DelineationLost e refl r
-  by-row PortOutOfRange e r = absurd r
-  by-row PortHeldOrNotHeld e r = absurd r
-  by-row SlotsTaken e r = absurd r
-  by-row KeyRefused e r = absurd r
-  by-row NotWritten e r = absurd r
+  by-row : (n : ℕ) → number ≡ n → Row (st .station) arrival (lend st b) left n → Step first st (frame arrival b)
+  by-row n e (Row.done r) = lit false 0 e refl r
+  by-row n e (Row.state-out-of-range p q) = still-here 1 e refl StateOutOfRange q
+  by-row n e (Row.frame-length-unfit p o q) = still-here 2 e refl FrameLengthUnfit q
+  by-row n e (Row.buffer-too-short p o r q) = still-here 3 e refl BufferTooShort q
+  by-row n e (Row.hlend-unreadable p o q) = unlit 4 e refl HlendUnreadable q
+  by-row n e (Row.header-too-long t q) = unlit 5 e refl HeaderTooLong q
+  by-row n e (Row.delineation-lost r) = lit true 6 e refl r
 
   frame-step : Step first st (frame arrival b)
   unfolding left
-  frame-step = by-row (left .outcome .answer) refl (table (st .station) arrival (lend st b))
+  frame-step = by-row number refl (table (st .station) arrival (lend st b))
 
 step : (first : Station) (st : Progress) (c : Call) → Kept first st → Step first st c
 step first st (frame arrival b) k = frame-step first st arrival b (k .sound)
 step first st lost k =
     let e = lost-history (st .station) (k .sound) in
-    passed dark refl (ap (λ x. st .times + another (passes (x .answer))) e)
+    passed dark refl (ap (λ x. st .times + another (passes (answerNumber (x .answer)))) e)
     (ap (λ x. x .station .carried) e ∙ lost-carried (st .station) ∙ silent-carried (st .station) (k .sound))
 step first st (addPort port) k = still refl refl (add-carried (st .station) port)
 step first st (removePort port) k = still refl refl (remove-carried (st .station) port)
@@ -162,6 +161,36 @@ timeline first (c ∷ l) st k = go (step first st c k) (timeline first l (after 
           times = time ∷ rest .times;
           bursts = ap₂ _++_ n (rest .bursts ∙ ap₂ (λ (x y : ℕ). upstream.burstsOf (upstreamWords * x) y (rest .times)) t w ∙ ap (λ (x : ℕ). upstream.burstsOf x (carry (st .station .carried) time) (rest .times)) o);
         }
+
+-- ---- the words carried over, by what the run has sent
+
+finish-on : (o e w : ℕ) (l : List Series) → e ≡ o + w → lastFinish e (bursts o l) ≡ o + lastEnd w l
+finish-on o e w [] h = h
+finish-on o e w (s ∷ l) h = finish-on o (o + s .head .start + burstWords s) (s .head .start + burstWords s) l (omega arith)
+
+beyond-on : (o e w : ℕ) (l : List Series) → w ≡ e - o → lastFinish e (bursts o l) - (o + upstreamWords) ≡ lastEnd w l - upstreamWords
+beyond-on o e w [] h = omega (arith, h)
+beyond-on o e w (s ∷ l) h =
+    let f = finish-on o (o + s .head .start + burstWords s) (s .head .start + burstWords s) l (omega arith) in
+    rw f (omega arith)
+
+lastFinish-join : (e : ℕ) (l k : List Burst) → lastFinish e (l ++ k) ≡ lastFinish (lastFinish e l) k
+lastFinish-join e [] k = refl
+lastFinish-join e (b ∷ l) k = lastFinish-join (finish b) l k
+
+pub carried-by
+    : (first : Station) (calls : List Call) (st : Progress) → Kept first st → (e : ℕ) → st .station .carried ≡ e - upstreamWords * st .times
+    → let on = run lingbarrow first st calls in on .station .carried ≡ lastFinish e (burstsFrom lingbarrow first st calls) - upstreamWords * on .times
+carried-by first [] st k e h = h
+carried-by first (c ∷ l) st k e h =
+    rw (lastFinish-join e (burstsBy lingbarrow st c) (burstsFrom lingbarrow first (after lingbarrow first st c) l))
+    (carried-by first l (after lingbarrow first st c) (call-kept first st c k) (lastFinish e (burstsBy lingbarrow st c)) (go (step first st c k)))
+  where
+    go : Step first st c → after lingbarrow first st c .station .carried ≡ lastFinish e (burstsBy lingbarrow st c) - upstreamWords * after lingbarrow first st c .times
+    go (still n t w) = rw (n, t, w) h
+    go (passed time n t w) =
+        let o : upstreamWords * (st .times + 1) ≡ upstreamWords * st .times + upstreamWords = omega arith in
+        rw (n, t, w, o) (sym (beyond-on (upstreamWords * st .times) e (st .station .carried) (upstream.sent (st .station .carried) time) h))
 
 pub no-word-shared : (first : Station) (calls : List Call) (st : Progress) → Kept first st → (word : ℕ) → takers word (burstsFrom lingbarrow first st calls) ≤ 1
 no-word-shared first calls st k word =

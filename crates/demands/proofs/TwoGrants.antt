@@ -5,7 +5,7 @@ use Prim.Native.Nat.{ℕ}
 use native.Mathlib.Omega.{arith}
 use mathlib.Core.Path.{_≡_, _∙_, refl, ap, ap₂, subst}
 use mathlib.Core.Bool.{true, false}
-use mathlib.Core.List.{List, [], _∷_}
+use mathlib.Core.List.{List, [], _∷_, _++_}
 use lib.Dec.{lit<}
 use lib.Count.{onesIn}
 use Rattle.hec.specs.Reads.{word}
@@ -18,20 +18,20 @@ use Rattle.xgtc.specs.Layouts.{hlendOf, allocationOf}
 use Rattle.xgem.specs.Reads.{Found, fields, taken}
 use Rattle.xgtc.specs.Reads.{readHlend}
 use Rattle.station.specs.declared.Station.{Station}
-use Rattle.station.specs.declared.answers.Answer.the-variants.{Done}
+use Rattle.answers.specs.Answers.{answerNumber}
 use Rattle.entries.specs.Standings.{standing, sorted, startUnfit, noRoom, continues, discovery}
 use Rattle.series.specs.Series.{Series, entryAt, standings, seriesOf, outset, planned, judged, wordsOf}
 use Rattle.bwmap.specs.Promises.{Account}
-use Rattle.plan.specs.Laser.{burstsOf}
+use Rattle.plan.specs.Laser.{Sending, burstsOf}
 use Rattle.downstream.specs.Lengths.{lengthFits}
 use Rattle.frame.specs.Given.{Arrival, Lent, enough}
 use Rattle.downstream.specs.Partitions.{mapOf}
 use Rattle.frame.specs.Frame.{FrameLeft, ownOf, plannedIn, handled, frameLeft}
 use Rattle.engine.specs.Lods.{lostLeft}
-use Rattle.engine.specs.Answers.{lostIn, Handled}
+use Rattle.engine.specs.Answers.{lostIn, Handled, Row}
 use Rattle.engine.proofs.Table.{only}
 use Rattle.demands.specs.Runs.{frame}
-use Rattle.demands.specs.Demand3.{sendings, Demand3}
+use Rattle.demands.specs.Demand3.{sendings, placed, Demand3}
 use Rattle.demands.specs.Wrong.{withFrame}
 use Rattle.demands.proofs.RefutingRuns.{fresh, memory, buffers, lent, arrives, begun, Leads, on, asked, next-planned, none-planned, bare, searching, searching-in-range, bare-leads}
 
@@ -80,10 +80,10 @@ handled-two =
     }
 
 pub left-two : handled searching twoEntries (arrives two) lent ≡ frameLeft searching (arrives two) lent
-left-two = only searching (arrives two) lent Done (handled searching twoEntries (arrives two) lent) handled-two .0
+left-two = only searching (arrives two) lent 0 (handled searching twoEntries (arrives two) lent) (Row.done handled-two) .0
 
-pub answer-two : handled searching twoEntries (arrives two) lent .outcome .answer ≡ Done
-answer-two = only searching (arrives two) lent Done (handled searching twoEntries (arrives two) lent) handled-two .1
+pub answer-two : answerNumber (handled searching twoEntries (arrives two) lent .outcome .answer) ≡ 0
+answer-two = only searching (arrives two) lent 0 (handled searching twoEntries (arrives two) lent) (Row.done handled-two) .1
 
 pub two-planned : plannedIn searching twoEntries (arrives two) ≡ seriesFrom 0 ∷ seriesFrom 100 ∷ []
 unfolding plannedIn seriesFrom grantAt judged wordsOf
@@ -98,10 +98,11 @@ both-planned p a =
     let y = next-planned (omega arith) (omega arith) (omega arith) (x .account) in
     x .is ∙ ap (λ (l : List Series). seriesFrom 0 ∷ l) (y .is ∙ ap (λ (l : List Series). seriesFrom 100 ∷ l) (none-planned (y .account)))
 
--- one that goes from power-on to O2-3 as it should, and answers this frame with 0
+-- one that goes from power-on to O2-3 as it should, sending nothing on the way, and answers this frame with 0
 pub sends-both : (call : Station → Arrival → Lent → FrameLeft) → Demand3 (withFrame call) → Leads (call fresh (arrives bare) lent) searching
-    → call searching (arrives two) lent .outcome .answer ≡ Done → sendings (call searching (arrives two) lent) ≡ burstsOf (seriesFrom 0 ∷ seriesFrom 100 ∷ [])
-sends-both call d first answer =
+    → sendings (call fresh (arrives bare) lent) ≡ [] → answerNumber (call searching (arrives two) lent .outcome .answer) ≡ 0
+    → sendings (call searching (arrives two) lent) ≡ burstsOf (seriesFrom 0 ∷ seriesFrom 100 ∷ [])
+sends-both call d first dark answer =
     let o = asked call lostLeft d (frame (arrives bare) buffers ∷ []) searching searching
-    (on call lostLeft _ fresh fresh begun bare searching searching bare-leads first) two twoEntries reads-two answer in
+    (on call lostLeft _ fresh fresh begun bare searching searching bare-leads first) (ap (λ (l : List Sending). placed 0 l ++ []) dark) two twoEntries reads-two answer in
     o .are ∙ ap burstsOf (both-planned (o .planned) (subst (λ (l : List Series). Account (outset 0) l (o .planned)) two-series (o .account)))

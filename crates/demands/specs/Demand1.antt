@@ -6,26 +6,27 @@ use Prim.Native.Nat.{ℕ, _≤_, _<_}
 use mathlib.Core.Path.{_≡_}
 use mathlib.Core.Bool.{Bool, true, false, _&&_}
 use mathlib.Core.List.{List}
-use lib.Dec.{leb}
-use lib.ListN.{length}
+use lib.ListN.{length, replicate}
 use Rattle.xgtc.specs.declared.hlend.Hlend.{Hlend}
 use Rattle.xgtc.specs.declared.allocation.Allocation.{Allocation}
 use Rattle.xgem.specs.declared.frame.XgemHeader.{XgemHeader}
-use Rattle.xgem.specs.declared.words.Written.{Written}
-use Rattle.xgem.specs.declared.words.Written.the-variants.{Done as WriteDone, Refused}
 use Rattle.octets.specs.Octets.{octets}
 use Rattle.xgem.specs.Layouts.{xgemFits, xgemWord}
 use Rattle.xgtc.specs.Layouts.{hlendFits, hlendWord, allocationFits, allocationWord}
-use Rattle.xgem.specs.Writes.{put, carrying, xgemFrame}
+use Rattle.xgem.specs.Writes.{WriteLeft, put, carrying, xgemFrame}
 use Rattle.xgem.specs.Reads.{fields, unreadable}
 use Rattle.xgtc.specs.Reads.{readHlend}
 use Rattle.ids.specs.declared.PortId.{PortId}
 use Rattle.ids.specs.Ids.{assignablePort}
 use Rattle.station.specs.declared.Station.{Station}
-use Rattle.station.specs.declared.answers.Answer.{Answer}
-use Rattle.station.specs.declared.answers.Answer.the-variants.{Done, StateOutOfRange, FrameLengthUnfit, BufferTooShort, HlendUnreadable, HeaderTooLong, DelineationLost, PortOutOfRange, PortHeldOrNotHeld, SlotsTaken, KeyRefused, NotWritten}
+use Rattle.station.specs.declared.Activation.the-variants.{Initial}
+use Rattle.answers.specs.declared.Answer.the-variants.{StateOutOfRange, FrameLengthUnfit, BufferTooShort, HlendUnreadable, HeaderTooLong}
+use Rattle.answers.specs.Answers.{answerNumber}
 use Rattle.station.specs.States.{holdsIdentity}
+use Rattle.link.specs.declared.Response.the-variants.{Registration}
+use Rattle.link.specs.Limits.{addedAllocs, mostOwed, keyOctets}
 use Rattle.link.specs.Link.{withKey, installed}
+use Rattle.ports.specs.Limits.{addedPorts, slots}
 use Rattle.ports.specs.Ports.{portPlace, vacancy, addPort, removePort}
 use Rattle.station.specs.Station.{withLink, withPorts}
 use Rattle.validity.specs.Ranges.{inRange}
@@ -38,75 +39,63 @@ use Rattle.downstream.specs.Partitions.{headerEnd, payloadOf}
 use Rattle.station.specs.States.{isOperating}
 use Rattle.engine.specs.Answers.{Row}
 use Rattle.engine.specs.declared.stretching.StretchPlace.{StretchPlace}
-use Rattle.engine.specs.Stretch.{empty, placeIn}
+use Rattle.engine.specs.Stretch.{empty, placeIn, PlacesLeft, noPlaces, placesFit}
+use Rattle.engine.specs.Each.{EachStretch}
 use Rattle.demands.specs.Engine.{Engine}
 
--- the lost frame time: 0, or 1 with nothing changed
-abbrev pub LostRow : Station → Answer → Station → Type 0
-LostRow s Done next = (inRange s ≡ true) × (next ≡ lostTime s)
-LostRow s StateOutOfRange next = (inRange s ≡ false) × (next ≡ s)
-LostRow s FrameLengthUnfit next = ⊥
-LostRow s BufferTooShort next = ⊥
-LostRow s HlendUnreadable next = ⊥
-LostRow s HeaderTooLong next = ⊥
-LostRow s DelineationLost next = ⊥
-LostRow s PortOutOfRange next = ⊥
-LostRow s PortHeldOrNotHeld next = ⊥
-LostRow s SlotsTaken next = ⊥
-LostRow s KeyRefused next = ⊥
-LostRow s NotWritten next = ⊥
+-- ---- power-on
 
--- a port is added: 1, 7, 8, 9 with nothing changed, tested in that order, or it has the lowest empty slot
-abbrev pub AddRow : Station → PortId → Answer → Station → Type 0
-AddRow s port Done next =
-    (inRange s ≡ true) × (assignablePort port ≡ true) × (isHeld (portPlace (s .ports) port) ≡ false) × (isHeld (vacancy (s .ports)) ≡ true)
-    × (next ≡ withPorts s (addPort (s .ports) port))
-AddRow s port StateOutOfRange next = (inRange s ≡ false) × (next ≡ s)
-AddRow s port PortOutOfRange next = (inRange s ≡ true) × (assignablePort port ≡ false) × (next ≡ s)
-AddRow s port PortHeldOrNotHeld next =
-    (inRange s ≡ true) × (assignablePort port ≡ true) × (isHeld (portPlace (s .ports) port) ≡ true) × (next ≡ s)
-AddRow s port SlotsTaken next =
-    (inRange s ≡ true) × (assignablePort port ≡ true) × (isHeld (portPlace (s .ports) port) ≡ false) × (isHeld (vacancy (s .ports)) ≡ false) × (next ≡ s)
-AddRow s port FrameLengthUnfit next = ⊥
-AddRow s port BufferTooShort next = ⊥
-AddRow s port HlendUnreadable next = ⊥
-AddRow s port HeaderTooLong next = ⊥
-AddRow s port DelineationLost next = ⊥
-AddRow s port KeyRefused next = ⊥
-AddRow s port NotWritten next = ⊥
+-- "Power-on takes a serial number and a Registration ID and gives O1 with nothing held or carried"
+pub record PoweredOn (serial registration : List ℕ) (s : Station) : Type 0 where
+  pub state : s .activation ≡ Initial
+  pub serial-number : s .serial ≡ serial
+  pub registration-id : s .registration ≡ registration
+  -- "ONU-ID .. else 1,023"
+  pub onu : s .link .onu .0 ≡ 1023
+  pub allocs : s .link .allocs ≡ record { ids = replicate addedAllocs (record { 0 = 0 }); count = 0 }
+  pub owed : s .link .owed ≡ record { answers = replicate mostOwed (record { response = Registration; «seq_no» = 0 }); count = 0 }
+  pub key : s .link .key ≡ record { held = false; octets = replicate keyOctets 0 }
+  pub delay : s .link .delay ≡ 0
+  pub ports : s .ports .ids ≡ replicate addedPorts (record { 0 = 0 })
+  pub partials : s .ports .lengths ≡ replicate slots 0
+  -- "every port then waits, the management port too, and from power-on"
+  pub waiting : s .ports .waiting ≡ replicate slots true
+  pub carried : s .carried ≡ 0
 
--- a port is removed: 1, 7, 8
-abbrev pub RemoveRow : Station → PortId → Answer → Station → Type 0
-RemoveRow s port Done next =
-    (inRange s ≡ true) × (assignablePort port ≡ true) × (isHeld (portPlace (s .ports) port) ≡ true) × (next ≡ withPorts s (removePort (s .ports) port))
-RemoveRow s port StateOutOfRange next = (inRange s ≡ false) × (next ≡ s)
-RemoveRow s port PortOutOfRange next = (inRange s ≡ true) × (assignablePort port ≡ false) × (next ≡ s)
-RemoveRow s port PortHeldOrNotHeld next =
-    (inRange s ≡ true) × (assignablePort port ≡ true) × (isHeld (portPlace (s .ports) port) ≡ false) × (next ≡ s)
-RemoveRow s port SlotsTaken next = ⊥
-RemoveRow s port FrameLengthUnfit next = ⊥
-RemoveRow s port BufferTooShort next = ⊥
-RemoveRow s port HlendUnreadable next = ⊥
-RemoveRow s port HeaderTooLong next = ⊥
-RemoveRow s port DelineationLost next = ⊥
-RemoveRow s port KeyRefused next = ⊥
-RemoveRow s port NotWritten next = ⊥
+-- ---- the rows of each call, by the answer's number: when it is given, and what is left. A call has no number but those of its rows
 
--- a key is given: 1, 10
-abbrev pub KeyRow : Station → List ℕ → Answer → Station → Type 0
-KeyRow s octets Done next =
-    (inRange s ≡ true) × (holdsIdentity (s .activation) ≡ true) × (next ≡ withLink s (withKey (s .link) (installed octets)))
-KeyRow s octets StateOutOfRange next = (inRange s ≡ false) × (next ≡ s)
-KeyRow s octets KeyRefused next = (inRange s ≡ true) × (holdsIdentity (s .activation) ≡ false) × (next ≡ s)
-KeyRow s octets FrameLengthUnfit next = ⊥
-KeyRow s octets BufferTooShort next = ⊥
-KeyRow s octets HlendUnreadable next = ⊥
-KeyRow s octets HeaderTooLong next = ⊥
-KeyRow s octets DelineationLost next = ⊥
-KeyRow s octets PortOutOfRange next = ⊥
-KeyRow s octets PortHeldOrNotHeld next = ⊥
-KeyRow s octets SlotsTaken next = ⊥
-KeyRow s octets NotWritten next = ⊥
+-- the lost frame time
+pub data LostRow (s next : Station) : ℕ → Type 0 where
+  done : inRange s ≡ true → next ≡ lostTime s → LostRow s next 0
+  state-out-of-range : inRange s ≡ false → next ≡ s → LostRow s next 1
+
+-- a port is added: it has the lowest empty slot
+pub data AddRow (s : Station) (port : PortId) (next : Station) : ℕ → Type 0 where
+  done
+      : inRange s ≡ true → assignablePort port ≡ true → isHeld (portPlace (s .ports) port) ≡ false → isHeld (vacancy (s .ports)) ≡ true
+      → next ≡ withPorts s (addPort (s .ports) port) → AddRow s port next 0
+  state-out-of-range : inRange s ≡ false → next ≡ s → AddRow s port next 1
+  port-out-of-range : inRange s ≡ true → assignablePort port ≡ false → next ≡ s → AddRow s port next 7
+  port-held : inRange s ≡ true → assignablePort port ≡ true → isHeld (portPlace (s .ports) port) ≡ true → next ≡ s → AddRow s port next 8
+  slots-taken
+      : inRange s ≡ true → assignablePort port ≡ true → isHeld (portPlace (s .ports) port) ≡ false → isHeld (vacancy (s .ports)) ≡ false → next ≡ s
+      → AddRow s port next 9
+
+-- a port is removed
+pub data RemoveRow (s : Station) (port : PortId) (next : Station) : ℕ → Type 0 where
+  done
+      : inRange s ≡ true → assignablePort port ≡ true → isHeld (portPlace (s .ports) port) ≡ true → next ≡ withPorts s (removePort (s .ports) port)
+      → RemoveRow s port next 0
+  state-out-of-range : inRange s ≡ false → next ≡ s → RemoveRow s port next 1
+  port-out-of-range : inRange s ≡ true → assignablePort port ≡ false → next ≡ s → RemoveRow s port next 7
+  port-not-held : inRange s ≡ true → assignablePort port ≡ true → isHeld (portPlace (s .ports) port) ≡ false → next ≡ s → RemoveRow s port next 8
+
+-- a key is given
+pub data KeyRow (s : Station) (octets : List ℕ) (next : Station) : ℕ → Type 0 where
+  done
+      : inRange s ≡ true → holdsIdentity (s .activation) ≡ true → next ≡ withLink s (withKey (s .link) (installed octets)) → KeyRow s octets next 0
+  state-out-of-range : inRange s ≡ false → next ≡ s → KeyRow s octets next 1
+  key-refused : inRange s ≡ true → holdsIdentity (s .activation) ≡ false → next ≡ s → KeyRow s octets next 10
 
 -- where an unfragmented SDU stands in the frame: the frame call's numbers without 3, and no stretch after 1, 2, 4 and 5
 pub record Placed (s : Station) (f : List ℕ) (k : ℕ) (lost : Bool) (p : StretchPlace) : Type 0 where
@@ -115,7 +104,7 @@ pub record Placed (s : Station) (f : List ℕ) (k : ℕ) (lost : Bool) (p : Stre
   pub hlend : Hlend
   pub reads : readHlend f ≡ fields hlend
   pub fits : headerEnd hlend ≤ length f
-  pub delineation : (isOperating (s .activation) && parse 0 (payloadOf hlend f) .lost) ≡ lost
+  pub delineation : (isOperating (s .activation) && parse (headerEnd hlend) (payloadOf hlend f) .lost) ≡ lost
   pub place : p ≡ placeIn s hlend f k
 
 pub record NoPlace (s : Station) (f : List ℕ) (p : StretchPlace) : Type 0 where
@@ -126,36 +115,45 @@ pub record NoPlace (s : Station) (f : List ℕ) (p : StretchPlace) : Type 0 wher
   pub longer : length f < headerEnd hlend
   pub place : p ≡ empty HeaderTooLong
 
-abbrev pub StretchRow : Station → List ℕ → ℕ → Answer → StretchPlace → Type 0
-StretchRow s f k Done p = Placed s f k false p
-StretchRow s f k StateOutOfRange p = (inRange s ≡ false) × (p ≡ empty StateOutOfRange)
-StretchRow s f k FrameLengthUnfit p = (inRange s ≡ true) × (lengthFits (length f) ≡ false) × (p ≡ empty FrameLengthUnfit)
-StretchRow s f k HlendUnreadable p =
-    (inRange s ≡ true) × (lengthFits (length f) ≡ true) × (readHlend f ≡ unreadable) × (p ≡ empty HlendUnreadable)
-StretchRow s f k HeaderTooLong p = NoPlace s f p
-StretchRow s f k DelineationLost p = Placed s f k true p
-StretchRow s f k BufferTooShort p = ⊥
-StretchRow s f k PortOutOfRange p = ⊥
-StretchRow s f k PortHeldOrNotHeld p = ⊥
-StretchRow s f k SlotsTaken p = ⊥
-StretchRow s f k KeyRefused p = ⊥
-StretchRow s f k NotWritten p = ⊥
+pub data StretchRow (s : Station) (f : List ℕ) (k : ℕ) (p : StretchPlace) : ℕ → Type 0 where
+  done : Placed s f k false p → StretchRow s f k p 0
+  state-out-of-range : inRange s ≡ false → p ≡ empty StateOutOfRange → StretchRow s f k p 1
+  frame-length-unfit : inRange s ≡ true → lengthFits (length f) ≡ false → p ≡ empty FrameLengthUnfit → StretchRow s f k p 2
+  hlend-unreadable
+      : inRange s ≡ true → lengthFits (length f) ≡ true → readHlend f ≡ unreadable → p ≡ empty HlendUnreadable → StretchRow s f k p 4
+  header-too-long : NoPlace s f p → StretchRow s f k p 5
+  delineation-lost : Placed s f k true p → StretchRow s f k p 6
 
--- the writers: 0 where every value fits its field and the target has room, and 11 with nothing changed where not
-abbrev pub WriteRow : Bool → List ℕ → List ℕ → Written → List ℕ → Type 0
-WriteRow fit octets target WriteDone left = (fit ≡ true) × (leb (length octets) (length target) ≡ true) × (left ≡ put target octets)
-WriteRow fit octets target Refused left = ((fit && leb (length octets) (length target)) ≡ false) × (left ≡ target)
+-- all stretches of a frame: what the call for one gives, entry by entry, where the list has room or the call is refused before; 3 where
+-- the list is too short
+pub data StretchesRow (s : Station) (f places : List ℕ) (left : PlacesLeft) : ℕ → Type 0 where
+  each
+      : (inRange s ≡ true → lengthFits (length f) ≡ true → placesFit f places ≡ true) → EachStretch s f places left
+      → StretchesRow s f places left (answerNumber (left .found .answer))
+  list-too-short
+      : inRange s ≡ true → lengthFits (length f) ≡ true → placesFit f places ≡ false → left ≡ noPlaces BufferTooShort places → StretchesRow s f places left 3
+
+-- the writers: every value fits its field and the target has room; or nothing is changed
+pub data WriteRow (fit : Bool) (octets target left : List ℕ) : ℕ → Type 0 where
+  done : fit ≡ true → length octets ≤ length target → left ≡ put target octets → WriteRow fit octets target left 0
+  too-wide : fit ≡ false → left ≡ target → WriteRow fit octets target left 11
+  too-short : fit ≡ true → length target < length octets → left ≡ target → WriteRow fit octets target left 11
+
+-- what a writer leaves of the octets that it is to write, where fit says whether every value fits its field
+abbrev pub Writes : Bool → List ℕ → List ℕ → WriteLeft → Type 0
+Writes fit octets target left = WriteRow fit octets target (left .target) (answerNumber (left .answer))
 
 pub record Demand1 (E : Engine) : Type 0 where
-  pub frame : (s : Station) (a : Arrival) (lent : Lent) → Row s a lent (E .frame s a lent .outcome .answer) (E .frame s a lent)
-  pub lost : (s : Station) → LostRow s (E .lost s .answer) (E .lost s .station)
-  pub add : (s : Station) (port : PortId) → AddRow s port (E .addPort s port .answer) (E .addPort s port .station)
-  pub remove : (s : Station) (port : PortId) → RemoveRow s port (E .removePort s port .answer) (E .removePort s port .station)
-  pub key : (s : Station) (octets : List ℕ) → KeyRow s octets (E .giveKey s octets .answer) (E .giveKey s octets .station)
-  pub stretch : (s : Station) (f : List ℕ) (k : ℕ) → StretchRow s f k (E .stretchPlace s f k .answer) (E .stretchPlace s f k)
-  pub hlend : (h : Hlend) (t : List ℕ) → WriteRow (hlendFits h) (octets 4 (hlendWord h)) t (E .writeHlend h t .answer) (E .writeHlend h t .target)
-  pub allocation : (a : Allocation) (t : List ℕ)
-      → WriteRow (allocationFits a) (octets 8 (allocationWord a)) t (E .writeAllocation a t .answer) (E .writeAllocation a t .target)
-  pub xgem : (x : XgemHeader) (t : List ℕ) → WriteRow (xgemFits x) (octets 8 (xgemWord x)) t (E .writeXgem x t .answer) (E .writeXgem x t .target)
+  pub power-on : (serial registration : List ℕ) → PoweredOn serial registration (E .powerOn serial registration)
+  pub frame : (s : Station) (a : Arrival) (lent : Lent) → Row s a lent (E .frame s a lent) (answerNumber (E .frame s a lent .outcome .answer))
+  pub lost : (s : Station) → LostRow s (E .lost s .station) (answerNumber (E .lost s .answer))
+  pub add : (s : Station) (port : PortId) → AddRow s port (E .addPort s port .station) (answerNumber (E .addPort s port .answer))
+  pub remove : (s : Station) (port : PortId) → RemoveRow s port (E .removePort s port .station) (answerNumber (E .removePort s port .answer))
+  pub key : (s : Station) (octets : List ℕ) → KeyRow s octets (E .giveKey s octets .station) (answerNumber (E .giveKey s octets .answer))
+  pub stretch : (s : Station) (f : List ℕ) (k : ℕ) → StretchRow s f k (E .stretchPlace s f k) (answerNumber (E .stretchPlace s f k .answer))
+  pub stretches : (s : Station) (f places : List ℕ) → StretchesRow s f places (E .stretchPlaces s f places) (answerNumber (E .stretchPlaces s f places .found .answer))
+  pub hlend : (h : Hlend) (t : List ℕ) → Writes (hlendFits h) (octets 4 (hlendWord h)) t (E .writers .hlend h t)
+  pub allocation : (a : Allocation) (t : List ℕ) → Writes (allocationFits a) (octets 8 (allocationWord a)) t (E .writers .allocation a t)
+  pub xgem : (x : XgemHeader) (t : List ℕ) → Writes (xgemFits x) (octets 8 (xgemWord x)) t (E .writers .xgem x t)
   pub xgem-frame : (x : XgemHeader) (sdu t : List ℕ)
-      → WriteRow (xgemFits (carrying x sdu)) (xgemFrame (carrying x sdu) sdu) t (E .writeXgemFrame x sdu t .answer) (E .writeXgemFrame x sdu t .target)
+      → Writes (xgemFits (carrying x sdu)) (xgemFrame (carrying x sdu) sdu) t (E .writers .xgemFrame x sdu t)

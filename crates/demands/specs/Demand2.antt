@@ -44,12 +44,12 @@ pub record Demand2 (E : Engine) : Type 0 where
   -- bits, the other two 64
   pub headers : (n : ℕ) → n ≤ 64 → HeaderFact n
   -- "What we write and read again comes back equal"
-  pub hlend : (h : Hlend) → hlendFits h ≡ true → (target : List ℕ) → 4 ≤ length target → readHlend (E .writeHlend h target .target) ≡ fields h
-  pub allocation : (a : Allocation) → allocationFits a ≡ true → (target : List ℕ) → 8 ≤ length target → readAllocation (E .writeAllocation a target .target) ≡ fields a
-  pub xgem : (x : XgemHeader) → xgemFits x ≡ true → (target : List ℕ) → 8 ≤ length target → readXgem (E .writeXgem x target .target) ≡ fields x
+  pub hlend : (h : Hlend) → hlendFits h ≡ true → (target : List ℕ) → 4 ≤ length target → readHlend (E .writers .hlend h target .target) ≡ fields h
+  pub allocation : (a : Allocation) → allocationFits a ≡ true → (target : List ℕ) → 8 ≤ length target → readAllocation (E .writers .allocation a target .target) ≡ fields a
+  pub xgem : (x : XgemHeader) → xgemFits x ≡ true → (target : List ℕ) → 8 ≤ length target → readXgem (E .writers .xgem x target .target) ≡ fields x
   pub frame
       : (x : XgemHeader) (sdu : List ℕ) → xgemFits (carrying x sdu) ≡ true → (target : List ℕ) → 8 + payloadSize (length sdu) ≤ length target
-      → (readXgem (E .writeXgemFrame x sdu target .target) ≡ fields (carrying x sdu)) × (take (length sdu) (drop 8 (E .writeXgemFrame x sdu target .target)) ≡ sdu)
+      → (readXgem (E .writers .xgemFrame x sdu target .target) ≡ fields (carrying x sdu)) × (take (length sdu) (drop 8 (E .writers .xgemFrame x sdu target .target)) ≡ sdu)
   pub message
       : (installed : List ℕ) (message : UpstreamMessage) (id target : List ℕ) → Numbers message → length id ≡ 36 → messageOctets ≤ length target
       → Again installed message id (written installed message id target .target)

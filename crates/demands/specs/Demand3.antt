@@ -4,34 +4,37 @@
 -- or 6 is planned once, in map order, except one that is too long, starts before the last planned burst has ended, or comes
 -- when that frame already has four planned. No two planned bursts of the run share an upstream word."
 -- Assumes nothing.
-use Prim.Native.Nat.{ℕ, _+_, _*_, _≤_}
+use Prim.Native.Nat.{ℕ, _+_, _-_, _*_, _%_, _≤_}
 use mathlib.Core.Path.{_≡_}
 use mathlib.Core.Bool.{true, false, cond}
-use mathlib.Core.Logic.{_⊎_}
 use mathlib.Core.List.{List, [], _∷_, _++_}
+use lib.ListN.{length, take}
 use Rattle.xgtc.specs.declared.allocation.Allocation.{Allocation}
 use Rattle.xgtc.specs.declared.hlend.Hlend.{Hlend}
 use Rattle.xgem.specs.Reads.{fields}
 use Rattle.xgtc.specs.Reads.{readHlend}
 use Rattle.station.specs.declared.Station.{Station}
-use Rattle.station.specs.declared.answers.Answer.{Answer}
-use Rattle.station.specs.declared.answers.Answer.the-variants.{Done, DelineationLost}
+use Rattle.answers.specs.Answers.{answerNumber}
 use Rattle.station.specs.Limits.{upstreamWords}
-use Rattle.station.specs.States.{holdsIdentity}
-use Rattle.station.specs.States.{silent}
+use Rattle.station.specs.States.{holdsIdentity, silent}
+use Rattle.ploam.specs.Layout.{number16}
+use Rattle.messages.specs.Receiving.{messagesIn}
 use Rattle.series.specs.Limits.{ploamuWords}
 use Rattle.series.specs.Series.{Series, outset, standings, seriesOf}
 use Rattle.bwmap.specs.Promises.{SeriesIn, Account}
+use Rattle.plan.specs.Limits.{numbersARecord}
+use Rattle.plan.specs.Plan.{numbers}
 use Rattle.plan.specs.Laser.{Grant, Sending, laser, burstOf, burstsOf}
-use Rattle.bwmap.specs.Upstream.{Burst, takers}
-use Rattle.ledger.specs.Events.{Event, stationOf}
-use Rattle.ledger.specs.Promises.{Exact}
-use Rattle.ledger.specs.Plan.{ownAt, Listed, Discovery, OursAfter}
+use Rattle.bwmap.specs.Upstream.{Burst, finish, takers}
+use Rattle.ledger.specs.Events.{Event}
+use Rattle.ledger.specs.Ledger.{ledger, holds}
+use Rattle.ledger.specs.Promises.{Holds}
+use Rattle.ledger.specs.Plan.{ownOf, ownAt, Listed, Discovery, Ours}
 use Rattle.frame.specs.Given.{Arrival}
-use Rattle.downstream.specs.Partitions.{mapOf}
+use Rattle.downstream.specs.Partitions.{headerEnd, mapOf, messagesOf}
 use Rattle.frame.specs.Frame.{FrameLeft}
 use Rattle.demands.specs.Engine.{Engine}
-use Rattle.demands.specs.Runs.{Call, frame, lost, addPort, removePort, giveKey, Buffers, Progress, lend, after, runOf, start}
+use Rattle.demands.specs.Runs.{Call, frame, lost, addPort, removePort, giveKey, Buffers, Progress, lend, isDone, after, runOf, start}
 
 -- ---- what the laser sends
 
@@ -64,6 +67,21 @@ abbrev pub burstsFrom : Engine → Station → Progress → List Call → List B
 burstsFrom E first st [] = []
 burstsFrom E first st (c ∷ l) = burstsBy E st c ++ burstsFrom E first (after E first st c) l
 
+-- those of a run from power-on
+abbrev pub burstsOfRun : Engine → List ℕ → List ℕ → List ℕ → List Call → List Burst
+burstsOfRun E serial registration memory calls =
+    burstsFrom E (E .powerOn serial registration) (start (E .powerOn serial registration) memory) calls
+
+-- the word where the last of them ends
+abbrev pub lastFinish : ℕ → List Burst → ℕ
+lastFinish word [] = word
+lastFinish word (b ∷ l) = lastFinish (finish b) l
+
+-- "At the next frame time, lost or not and in every state, the words carried over are the part of the last burst beyond word
+-- 9,719": of what the run has sent, that which lies beyond the frame times that have passed
+abbrev pub carriedInto : ℕ → List Burst → ℕ
+carriedInto times bursts = lastFinish 0 bursts - upstreamWords * times
+
 -- ---- one frame of a run, which comes after the history h
 
 -- every entry of a series is on a number of the ledger; while no identity is held it is one grant to 1023
@@ -86,37 +104,67 @@ AllPlanned first h m [] = Unit {0}
 AllPlanned first h m (b ∷ l) = Planned first h m b × AllPlanned first h m l
 
 -- what a frame answered 0 or 6 plans, with so many words taken already by the last burst of the frame before
-pub record Obeys (first : Station) (h : List Event) (m : List ℕ) (carried : ℕ) (bursts : List Sending) : Type 0 where
-  -- each burst is one series of ours
-  pub each : AllPlanned first h m bursts
+pub record Obeys (first : Station) (h : List Event) (m : List ℕ) (carried : ℕ) (left : FrameLeft) : Type 0 where
+  -- each burst that the laser sends is one series of ours
+  pub each : AllPlanned first h m (sendings left)
   -- and the series of ours, in map order, are each planned once or left out for a fact that is shown
   pub planned : List Series
-  pub are : bursts ≡ burstsOf planned
   pub account : Account (outset carried) (seriesOf (standings (ownAt first h) m)) planned
+  pub are : sendings left ≡ burstsOf planned
+  -- the records that are counted are theirs, number by number
+  pub records : take (numbersARecord * left .counts .records) (left .lent .plan) ≡ numbers planned
 
-abbrev pub Plans : Answer → Station → Progress → Arrival → FrameLeft → Type 0
-Plans answer first st a left =
-    (answer ≡ Done) ⊎ (answer ≡ DelineationLost) → (hlend : Hlend) → readHlend (a .octets) ≡ fields hlend
-    → Obeys first (st .history) (mapOf hlend (a .octets)) (stationOf first (st .history) .carried) (sendings left)
+-- HLend was read, and what it counts lies within the frame
+pub record Plans (first : Station) (h : List Event) (a : Arrival) (carried : ℕ) (left : FrameLeft) : Type 0 where
+  pub hlend : Hlend
+  pub reads : readHlend (a .octets) ≡ fields hlend
+  pub fits : headerEnd hlend ≤ length (a .octets)
+  pub obeys : Obeys first h (mapOf hlend (a .octets)) carried left
 
--- ---- the demand
+-- ---- "numbers that messages accepted in earlier frames gave us"
+
+-- one of the messages of a frame
+pub record MessageOf (a : Arrival) (m : List ℕ) : Type 0 where
+  pub hlend : Hlend
+  pub reads : readHlend (a .octets) ≡ fields hlend
+  pub before : List (List ℕ)
+  pub behind : List (List ℕ)
+  pub lies : messagesIn (messagesOf hlend (a .octets)) ≡ before ++ (m ∷ behind)
+
+-- a number that stands in octets 5-6 of a message of one of the run's frames, in their low 14 bits
+pub record GivenIn (calls : List Call) (n : ℕ) : Type 0 where
+  pub before : List Call
+  pub arrival : Arrival
+  pub buffers : Buffers
+  pub behind : List Call
+  pub call : calls ≡ before ++ (frame arrival buffers ∷ behind)
+  pub message : List ℕ
+  pub of : MessageOf arrival message
+  pub number : n ≡ number16 message 5 % 16384
+
+-- ---- the demand, over any run from power-on
 
 pub record Demand3 (E : Engine) : Type 0 where
-  -- what is ours at a frame is what the ledger of the run before it says
-  pub ledger : (serial registration memory : List ℕ) (calls : List Call)
-      → Exact (E .powerOn serial registration) (runOf E serial registration memory calls .history)
+  -- what the engine holds as a frame arrives is what the ledger of the run before it says
+  pub held : (serial registration memory : List ℕ) (calls : List Call)
+      → let st = runOf E serial registration memory calls in Holds (ledger (E .powerOn serial registration) (st .history)) (st .station)
+  -- by what it holds, these entries of a map are ours
   pub ours : (serial registration memory : List ℕ) (calls : List Call)
-      → OursAfter (E .powerOn serial registration) (runOf E serial registration memory calls .history)
+      → let st = runOf E serial registration memory calls in Ours (ledger (E .powerOn serial registration) (st .history)) (ownOf (st .station))
+  -- and a message of an earlier frame gave each number that it holds
+  pub given : (serial registration memory : List ℕ) (calls : List Call) (n : ℕ)
+      → holds (runOf E serial registration memory calls .station) n ≡ true → GivenIn calls n
   -- a frame answered 0 or 6 is planned so
   pub plans : (serial registration memory : List ℕ) (calls : List Call) (a : Arrival) (b : Buffers)
       → let st = runOf E serial registration memory calls in
       let left = E .frame (st .station) a (lend st b) in
-      Plans (left .outcome .answer) (E .powerOn serial registration) st a left
+      isDone (answerNumber (left .outcome .answer)) ≡ true
+      → Plans (E .powerOn serial registration) (st .history) a (carriedInto (st .times) (burstsOfRun E serial registration memory calls)) left
   -- and after any other answer nothing is sent
   pub silent : (serial registration memory : List ℕ) (calls : List Call) (a : Arrival) (b : Buffers)
       → let st = runOf E serial registration memory calls in
       let left = E .frame (st .station) a (lend st b) in
-      (left .outcome .answer ≡ Done → ⊥) → (left .outcome .answer ≡ DelineationLost → ⊥) → sendings left ≡ []
+      isDone (answerNumber (left .outcome .answer)) ≡ false → sendings left ≡ []
   -- "No two planned bursts of the run share an upstream word"
   pub once : (serial registration memory : List ℕ) (calls : List Call) (word : ℕ)
-      → takers word (burstsFrom E (E .powerOn serial registration) (start (E .powerOn serial registration) memory) calls) ≤ 1
+      → takers word (burstsOfRun E serial registration memory calls) ≤ 1

@@ -11,13 +11,20 @@ use Rattle.xgem.specs.Writes as writing
 use Rattle.xgtc.specs.Writes as xgtc-writing
 use Rattle.station.specs.declared.Station.{Station}
 use Rattle.station.specs.Station as station
-use Rattle.station.specs.declared.answers.Outcome.{Outcome}
+use Rattle.station.specs.declared.Outcome.{Outcome}
 use Rattle.host.specs.Host.{afterAdd, afterRemove, afterKey}
 use Rattle.frame.specs.Given.{Arrival, Lent}
 use Rattle.frame.specs.Frame.{FrameLeft, frameLeft}
 use Rattle.engine.specs.Lods.{lostLeft}
 use Rattle.engine.specs.declared.stretching.StretchPlace.{StretchPlace}
-use Rattle.engine.specs.Stretch.{stretchPlace}
+use Rattle.engine.specs.Stretch.{PlacesLeft, stretchPlace, stretchPlaces}
+
+-- what is written into a lent target
+pub record Writers : Type 0 where
+  pub hlend : Hlend → List ℕ → writing.WriteLeft
+  pub allocation : Allocation → List ℕ → writing.WriteLeft
+  pub xgem : XgemHeader → List ℕ → writing.WriteLeft
+  pub xgemFrame : XgemHeader → List ℕ → List ℕ → writing.WriteLeft
 
 pub record Engine : Type 0 where
   pub powerOn : List ℕ → List ℕ → Station
@@ -27,10 +34,8 @@ pub record Engine : Type 0 where
   pub removePort : Station → PortId → Outcome
   pub giveKey : Station → List ℕ → Outcome
   pub stretchPlace : Station → List ℕ → ℕ → StretchPlace
-  pub writeHlend : Hlend → List ℕ → writing.WriteLeft
-  pub writeAllocation : Allocation → List ℕ → writing.WriteLeft
-  pub writeXgem : XgemHeader → List ℕ → writing.WriteLeft
-  pub writeXgemFrame : XgemHeader → List ℕ → List ℕ → writing.WriteLeft
+  pub stretchPlaces : Station → List ℕ → List ℕ → PlacesLeft
+  pub writers : Writers
 
 -- this one: each definition is the right side of the public call's contract
 abbrev pub lingbarrow : Engine
@@ -43,8 +48,11 @@ lingbarrow =
       removePort = afterRemove;
       giveKey = afterKey;
       stretchPlace = stretchPlace;
-      writeHlend = xgtc-writing.writeHlend;
-      writeAllocation = xgtc-writing.writeAllocation;
-      writeXgem = writing.writeXgem;
-      writeXgemFrame = writing.writeXgemFrame;
+      stretchPlaces = stretchPlaces;
+      writers = record {
+        hlend = xgtc-writing.writeHlend;
+        allocation = xgtc-writing.writeAllocation;
+        xgem = writing.writeXgem;
+        xgemFrame = writing.writeXgemFrame;
+      };
     }

@@ -1,15 +1,15 @@
 -- A run: any list of calls from power-on. "In a run each call gets the state and port memory that the last one left."
 -- Assumes nothing.
 use Prim.Native.Nat.{ℕ, _+_}
-use mathlib.Core.Bool.{Bool, true, false, cond}
+use mathlib.Core.Bool.{Bool, _||_, cond}
 use mathlib.Core.List.{List, [], _∷_}
+use lib.Dec.{eqb}
 use Rattle.ids.specs.declared.PortId.{PortId}
 use Rattle.xgtc.specs.declared.hlend.Hlend.{Hlend}
 use Rattle.xgem.specs.Reads.{Found, fields, unreadable, short}
 use Rattle.xgtc.specs.Reads.{readHlend}
 use Rattle.station.specs.declared.Station.{Station}
-use Rattle.station.specs.declared.answers.Answer.{Answer}
-use Rattle.station.specs.declared.answers.Answer.the-variants.{Done, StateOutOfRange, FrameLengthUnfit, BufferTooShort, HlendUnreadable, HeaderTooLong, DelineationLost, PortOutOfRange, PortHeldOrNotHeld, SlotsTaken, KeyRefused, NotWritten}
+use Rattle.answers.specs.Answers.{answerNumber}
 use Rattle.messages.specs.Receiving.{messagesIn}
 use Rattle.series.specs.Series.{lastEnd, carriedOver}
 use Rattle.plan.specs.Plan.{messages}
@@ -44,20 +44,15 @@ pub record Progress : Type 0 where
 abbrev pub lend : Progress → Buffers → Lent
 lend st b = lending (st .memory) (b .plan) (b .replies) (b .deliveries)
 
--- "After 1 to 3 no frame time passes"
-abbrev pub passes : Answer → Bool
-passes Done = true
-passes StateOutOfRange = false
-passes FrameLengthUnfit = false
-passes BufferTooShort = false
-passes HlendUnreadable = true
-passes HeaderTooLong = true
-passes DelineationLost = true
-passes PortOutOfRange = false
-passes PortHeldOrNotHeld = false
-passes SlotsTaken = false
-passes KeyRefused = false
-passes NotWritten = false
+-- "After 1 to 3 no frame time passes"; 7 and later are answers of the host's calls and the writers
+abbrev pub isDone : ℕ → Bool
+isDone n = eqb n 0 || eqb n 6
+
+abbrev pub isUnread : ℕ → Bool
+isUnread n = eqb n 4 || eqb n 5
+
+abbrev pub passes : ℕ → Bool
+passes n = isDone n || isUnread n
 
 abbrev pub another : Bool → ℕ
 another passed = cond passed 1 0
@@ -71,19 +66,9 @@ arrived (fields hlend) s a lent h =
     event.frame (messages (plannedIn s hlend a)) (payloadIn s hlend a lent .receiver .ports) (carriedOver (lastEnd (s .carried) (plannedIn s hlend a)))
     (messagesIn (messagesOf hlend (a .octets))) (isRanging (s .activation)) h
 
-abbrev pub befell : Answer → Station → Arrival → Lent → List Event → List Event
-befell Done s a lent h = arrived (readHlend (a .octets)) s a lent h
-befell StateOutOfRange s a lent h = h
-befell FrameLengthUnfit s a lent h = h
-befell BufferTooShort s a lent h = h
-befell HlendUnreadable s a lent h = unread ∷ h
-befell HeaderTooLong s a lent h = unread ∷ h
-befell DelineationLost s a lent h = arrived (readHlend (a .octets)) s a lent h
-befell PortOutOfRange s a lent h = h
-befell PortHeldOrNotHeld s a lent h = h
-befell SlotsTaken s a lent h = h
-befell KeyRefused s a lent h = h
-befell NotWritten s a lent h = h
+-- in a frame answered n
+abbrev pub befell : ℕ → Station → Arrival → Lent → List Event → List Event
+befell n s a lent h = cond (isDone n) (arrived (readHlend (a .octets)) s a lent h) (cond (isUnread n) (unread ∷ h) h)
 
 module _ (E : Engine) (first : Station) where
   -- a call upon what the last one left
@@ -92,15 +77,15 @@ module _ (E : Engine) (first : Station) where
       record {
         station = E .frame (st .station) a (lend st b) .outcome .station;
         memory = E .frame (st .station) a (lend st b) .lent .memory;
-        times = st .times + another (passes (E .frame (st .station) a (lend st b) .outcome .answer));
-        history = befell (E .frame (st .station) a (lend st b) .outcome .answer) (stationOf first (st .history)) a (lend st b) (st .history);
+        times = st .times + another (passes (answerNumber (E .frame (st .station) a (lend st b) .outcome .answer)));
+        history = befell (answerNumber (E .frame (st .station) a (lend st b) .outcome .answer)) (stationOf first (st .history)) a (lend st b) (st .history);
       }
   after st lost =
       record {
         station = E .lost (st .station) .station;
         memory = st .memory;
-        times = st .times + another (passes (E .lost (st .station) .answer));
-        history = cond (passes (E .lost (st .station) .answer)) (event.lost ∷ st .history) (st .history);
+        times = st .times + another (passes (answerNumber (E .lost (st .station) .answer)));
+        history = cond (passes (answerNumber (E .lost (st .station) .answer))) (event.lost ∷ st .history) (st .history);
       }
   after st (addPort port) =
       record { station = E .addPort (st .station) port .station; memory = st .memory; times = st .times; history = portAdded port ∷ st .history }

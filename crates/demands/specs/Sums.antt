@@ -7,7 +7,7 @@ use Rattle.xgem.specs.Layouts.{payloadSize}
 use Rattle.xgem.specs.Reads.{fields, unreadable}
 use Rattle.xgtc.specs.Reads.{readHlend}
 use Rattle.bwmap.specs.Sums.{Sum8, Sum9, Sum10, Sum11}
-use Rattle.invariants.proofs.Sums.{Sum12}
+use Rattle.decisions.specs.Sums.{Sum12}
 
 -- the four octets of HLend give a BWmap length and a PLOAM count
 abbrev pub hlendGives : ℕ → ℕ → ℕ → Type 0

@@ -13,7 +13,7 @@ use Rattle.xgem.specs.Reads.{Found, fields, unreadable, short}
 use Rattle.xgtc.specs.declared.hlend.Hlend.{Hlend}
 use Rattle.xgtc.specs.Reads.{readHlend}
 use Rattle.station.specs.declared.Station.{Station}
-use Rattle.station.specs.declared.answers.Answer.the-variants.{StateOutOfRange, FrameLengthUnfit, BufferTooShort, HeaderTooLong}
+use Rattle.answers.specs.declared.Answer.the-variants.{StateOutOfRange, FrameLengthUnfit, BufferTooShort, HeaderTooLong}
 use Rattle.validity.specs.Ranges.{inRange}
 use Rattle.downstream.specs.declared.Opening.{Opening}
 use Rattle.downstream.specs.declared.Opening.the-variants.{Refused, Unread, Opened}

@@ -7,7 +7,7 @@ ghost use Rattle.downstream.specs.Opening.{byHlend, tested, openingBy};
 pub mod lengths;
 pub mod partitions;
 
-use station::answers::Answer;
+use answers::Answer;
 use xgtc::hlend::Hlend;
 use xgtc::hlend::HlendRead;
 

@@ -4,13 +4,14 @@ use Prim.Native.Nat.{ℕ}
 use mathlib.Core.Path.{_≡_, _∙_, sym, ap}
 use mathlib.Core.List.{List}
 use Rattle.station.specs.declared.Station.{Station}
-use Rattle.station.specs.declared.answers.Outcome.{Outcome}
+use Rattle.station.specs.declared.Outcome.{Outcome}
 use Rattle.frame.specs.declared.FrameOutcome.{FrameOutcome}
 use Rattle.engine.specs.declared.stretching.StretchPlace.{StretchPlace}
+use Rattle.engine.specs.declared.stretching.StretchPlaces.{StretchPlaces}
 use Rattle.frame.specs.Given.{Arrival, Lent}
 use Rattle.frame.specs.Frame.{FrameLeft, FrameLeaves}
 use Rattle.engine.specs.Lods.{LostLeaves}
-use Rattle.engine.specs.Stretch.{PlaceIs, StretchIs}
+use Rattle.engine.specs.Stretch.{PlaceIs, StretchIs, PlacesLeft, PlacesAre}
 
 pub frame-determined
     : (s : Station) (arrived : Arrival) (lent : Lent) (a b : FrameOutcome) (x y : Lent) → FrameLeaves s arrived lent a x → FrameLeaves s arrived lent b y
@@ -27,3 +28,8 @@ place-determined s f k a b p q = p ∙ sym q
 
 pub stretch-determined : (s : Station) (f : List ℕ) (k : ℕ) (a b : List ℕ) → StretchIs s f k a → StretchIs s f k b → a ≡ b
 stretch-determined s f k a b p q = p ∙ sym q
+
+pub places-determined : (s : Station) (f places : List ℕ) (a b : StretchPlaces) (x y : List ℕ) → PlacesAre s f places a x → PlacesAre s f places b y → (a ≡ b) × (x ≡ y)
+places-determined s f places a b x y p q =
+    let same = p ∙ sym q in
+    (ap (λ (l : PlacesLeft). l .found) same, ap (λ (l : PlacesLeft). l .places) same)

@@ -3,11 +3,11 @@
 -- Assumes nothing.
 use Prim.Native.Nat.{ℕ, zero, suc, _+_, _*_, _≤_}
 use native.Mathlib.Omega.{arith}
-use mathlib.Core.Path.{_≡_, _∙_, refl, sym, ap}
+use mathlib.Core.Path.{_≡_, _∙_, refl, sym, ap, ap₂}
 use mathlib.Core.Bool.{Bool, true, false, not, cond}
 use mathlib.Core.List.{List, [], _∷_}
 use lib.Dec.{leb}
-use lib.ListN.{length, take, drop}
+use lib.ListN.{length, getD, take, drop}
 use borrow.Author.Tests.{le-leb}
 use Rattle.ids.specs.Ids.{managementPort}
 use Rattle.xgtc.specs.declared.hlend.Hlend.{Hlend}
@@ -17,7 +17,7 @@ use Rattle.xgem.specs.Reads.{fields, taken}
 use Rattle.xgtc.specs.Reads.{readHlend}
 use Rattle.hec.specs.Reads.{reading}
 use Rattle.station.specs.declared.Station.{Station}
-use Rattle.station.specs.declared.answers.Answer.the-variants.{StateOutOfRange, FrameLengthUnfit, BufferTooShort}
+use Rattle.answers.specs.declared.Answer.the-variants.{Done, StateOutOfRange, FrameLengthUnfit, BufferTooShort}
 use Rattle.station.specs.States.{isOperating}
 use Rattle.validity.specs.Ranges.{inRange}
 use Rattle.entries.specs.Limits.{structureOctets}
@@ -26,14 +26,18 @@ use Rattle.payload.specs.declared.walk.Delineation.the-variants.{Kept}
 use Rattle.payload.specs.Alike.{Alike}
 use Rattle.payload.specs.Walk.{Walked, walkOf}
 use Rattle.payload.proofs.Isolation.{isolated}
+use Rattle.stretches.specs.declared.Extent.{Extent}
+use Rattle.stretches.specs.Stretch.{noExtent, extentsOf, lostIn, stretchOf}
+use Rattle.stretches.proofs.Isolation.{same-stretches}
 use Rattle.series.specs.Series.{plannedOf}
 use Rattle.downstream.specs.declared.Opening.{Opening}
 use Rattle.downstream.specs.declared.Opening.the-variants.{Refused}
 use Rattle.downstream.specs.Lengths.{lengthFits}
 use Rattle.downstream.specs.Partitions.{hlendOctets, mapEnd, headerEnd, mapOf, messagesOf, payloadOf}
 use Rattle.downstream.specs.Opening.{byHlend, opening}
-use Rattle.frame.specs.Given.{Arrival, Lent, withOctets, enough, buffersFit}
+use Rattle.frame.specs.Given.{Arrival, Lent, arriving, lending, withOctets, enough, buffersFit}
 use Rattle.frame.specs.Frame.{ownOf, plannedIn, repliesIn, payloadIn, next, done, handled, byOpening, frameLeft}
+use Rattle.engine.specs.Stretch.{empty, told, placeIn, placeBy, stretchPlace}
 use Rattle.engine.specs.Alike.{AlikeFrames, equal, behind}
 
 -- a part of the front is a part of the whole
@@ -117,3 +121,38 @@ module _ (s : Station) (arrived : Arrival) (g : List ℕ) (lent : Lent) (h : Hle
 pub frames-isolated : (s : Station) (a : Arrival) (g : List ℕ) (lent : Lent) → AlikeFrames s (a .octets) g → frameLeft s a lent ≡ frameLeft s (withOctets a g) lent
 frames-isolated s a g lent equal = refl
 frames-isolated s a g lent (behind h reads fits long front rest) = same-frame s a g lent h reads fits long front rest
+
+-- ---- and their stretches
+
+module _ (s : Station) (f g : List ℕ) (k : ℕ) (h : Hlend) (reads : readHlend f ≡ fields h) (fits : headerEnd h ≤ length f) (long : length f ≡ length g)
+    (front : take (headerEnd h) f ≡ take (headerEnd h) g)
+    (rest : isOperating (s .activation) ≡ true → Alike (managementPort (s .link .onu)) (s .ports .ids) (payloadOf h f) (payloadOf h g)) where
+  same-place : placeIn s h f k ≡ placeIn s h g k
+  unfolding placeIn stretchOf extentsOf lostIn
+  same-place = go (isOperating (s .activation)) rest
+    where
+      go : (b : Bool) → (b ≡ true → Alike (managementPort (s .link .onu)) (s .ports .ids) (payloadOf h f) (payloadOf h g))
+          → cond b (told (stretchOf (managementPort (s .link .onu)) (s .ports) (headerEnd h) f k)) (empty Done) ≡ cond b (told (stretchOf (managementPort (s .link .onu)) (s .ports) (headerEnd h) g k)) (empty Done)
+      go true alike =
+          let x = same-stretches (alike refl) (headerEnd h) (s .ports) in
+          ap₂ (λ (ts : List Extent) (lost : Bool). told (record { stretch = getD ts k noExtent; lost = lost })) (x .0) (x .1)
+      go false alike = refl
+
+  places-alike : stretchPlace s f k ≡ stretchPlace s g k
+  unfolding stretchPlace opening
+  places-alike =
+      let same = same-hlend s (arriving f 0) g (lending [] [] [] []) h reads fits long front rest in
+      go (inRange s) (lengthFits (length f)) (rw (reads, same, sym long, le-leb (headerEnd h) (length f) fits) same-place)
+      ∙ ap (λ (n : ℕ). placeBy (cond (not (inRange s)) (Refused StateOutOfRange) (cond (not (lengthFits n)) (Refused FrameLengthUnfit) (byHlend (readHlend g) (length g)))) s g k) long
+    where
+      go
+          : (a b : Bool) → placeBy (byHlend (readHlend f) (length f)) s f k ≡ placeBy (byHlend (readHlend g) (length g)) s g k
+          → placeBy (cond (not a) (Refused StateOutOfRange) (cond (not b) (Refused FrameLengthUnfit) (byHlend (readHlend f) (length f)))) s f k
+          ≡ placeBy (cond (not a) (Refused StateOutOfRange) (cond (not b) (Refused FrameLengthUnfit) (byHlend (readHlend g) (length g)))) s g k
+      go false b e = refl
+      go true false e = refl
+      go true true e = e
+
+pub places-isolated : (s : Station) (f g : List ℕ) (k : ℕ) → AlikeFrames s f g → stretchPlace s f k ≡ stretchPlace s g k
+places-isolated s f g k equal = refl
+places-isolated s f g k (behind h reads fits long front rest) = places-alike s f g k h reads fits long front rest

@@ -8,8 +8,8 @@ use borrow.Author.Tests.{le-leb, leb-true}
 use Rattle.ids.specs.Ids.{managementPort}
 use Rattle.xgtc.specs.declared.hlend.Hlend.{Hlend}
 use Rattle.station.specs.declared.Station.{Station}
-use Rattle.station.specs.declared.answers.Answer.the-variants.{Done, StateOutOfRange}
-use Rattle.station.specs.declared.answers.Outcome.{Outcome}
+use Rattle.answers.specs.declared.Answer.the-variants.{Done, StateOutOfRange}
+use Rattle.station.specs.declared.Outcome.{Outcome}
 use Rattle.station.specs.States.{isOperating, isRanging}
 use Rattle.station.specs.Limits.{upstreamWords}
 use Rattle.station.specs.Station.{withCarried}

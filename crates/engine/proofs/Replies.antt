@@ -15,7 +15,7 @@ use Rattle.integrity.specs.declared.Direction.the-variants.{Upstream}
 use Rattle.integrity.proofs.Signed.{mic-length}
 use Rattle.ploamu.specs.Upstream.{upstreamAddress, upstreamType, upstreamOctets, fitting}
 use Rattle.ploamu.specs.Writing.{MessageLeft, laid, written}
-use Rattle.ploamu.specs.declared.Written.the-variants.{Done, Unfit}
+use Rattle.answers.specs.declared.Answer.the-variants.{Done, NotWritten}
 use Rattle.ploamu.proofs.RoundTrip.{octets-length}
 use Rattle.station.specs.declared.Activation.{Activation}
 use Rattle.station.specs.declared.Activation.the-variants.{Initial, SerialNumber, Ranging, Operation, Intermittent, EmergencyStop}
@@ -43,7 +43,7 @@ laid-long mic octets target fits m o t = go (fits && leb messageOctets (length t
   where
     go
         : (b : Bool)
-        → length (cond {A = MessageLeft} b (record { answer = Done; target = octets ++ mic ++ drop messageOctets target }) (record { answer = Unfit; target = target }) .target) ≡ messageOctets
+        → length (cond {A = MessageLeft} b (record { answer = Done; target = octets ++ mic ++ drop messageOctets target }) (record { answer = NotWritten; target = target }) .target) ≡ messageOctets
     go true =
         let e : length ((octets ++ mic) ++ drop messageOctets target) ≡ messageOctets
         = omega (arith, length-append (octets ++ mic) (drop messageOctets target), length-append octets mic, length-drop messageOctets target) in

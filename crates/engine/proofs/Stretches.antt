@@ -1,4 +1,4 @@
--- A stretch lies within the payload, so that it lies within the frame.
+-- A stretch lies within the frame.
 -- Assumes nothing.
 use Prim.Native.Nat.{ℕ, zero, suc, _+_, _-_, _≤_}
 use native.Mathlib.Omega.{arith}
@@ -24,15 +24,14 @@ use Rattle.payload.specs.declared.frames.Next.the-variants.{Done as NoMore, Los
 use Rattle.stretches.specs.declared.Extent.{Extent}
 use Rattle.stretches.specs.declared.StretchPlace as found
 use Rattle.payload.specs.Frames.{Xgem, nextOf, parse}
-use Rattle.stretches.specs.Stretch.{noExtent, aloneAt, stretches, stretchOf, cutOut}
+use Rattle.stretches.specs.Stretch.{noExtent, aloneAt, stretches, extentsOf, stretchOf, cutOut}
 use Rattle.downstream.specs.declared.Opening.{Opening}
 use Rattle.downstream.specs.declared.Opening.the-variants.{Refused, Unread, Opened}
-use Rattle.downstream.specs.Partitions.{headerEnd, payloadOf}
+use Rattle.downstream.specs.Partitions.{headerEnd}
 use Rattle.downstream.specs.Opening.{opening}
-use Rattle.downstream.proofs.Laws.{opened}
-use Rattle.engine.specs.Stretch.{empty, answerIf, inFrame, placeIn, placeBy, stretchPlace, cut}
+use Rattle.engine.specs.Stretch.{empty, told, placeIn, placeBy, stretchPlace, cut}
 use Rattle.engine.specs.declared.stretching.StretchPlace.{StretchPlace}
-use Rattle.station.specs.declared.answers.Answer.the-variants.{Done}
+use Rattle.answers.specs.declared.Answer.the-variants.{Done}
 use Rattle.station.specs.States.{isOperating}
 use Rattle.payload.proofs.Walks.{frame-inside, parse-done, parse-lost, parse-next}
 
@@ -87,26 +86,17 @@ in-all n own p (x ∷ rest) c k =
     in-on n (reassemblyOf p own (x .port) (x .last) (length (x .body))) (x .place + 8) (length (x .body)) _ (c .0)
     (in-all n own (portsAfter p (reassemblyOf p own (x .port) (x .last) (length (x .body))) (length (x .body))) rest (c .1)) k
 
--- the stretch of delivery k lies within the payload
-pub stretch-inside : (own : PortId) (p : Ports) (payload : List ℕ) (k : ℕ) → In (length payload) (stretchOf own p payload k .stretch)
-unfolding stretchOf
-stretch-inside own p payload k = in-all (length payload) own p (parse 0 payload .frames) (inside payload (length payload) 0 (omega arith)) k
+-- the stretch of delivery k lies within the frame
+pub stretch-inside : (own : PortId) (p : Ports) (begins : ℕ) (f : List ℕ) (k : ℕ) → In (length f) (stretchOf own p begins f k .stretch)
+unfolding stretchOf extentsOf
+stretch-inside own p begins f k = in-all (length f) own p (parse begins (drop begins f) .frames) (inside f (length f) begins (omega arith)) k
 
-module _ (s : Station) (h : Hlend) (f : List ℕ) (k : ℕ) where
-  -- what the search in the payload finds, as a place in the frame
-  pub placed
-      : (own : PortId) (rest : List ℕ) (p : found.StretchPlace) → isOperating (s .activation) ≡ true → own ≡ managementPort (s .link .onu)
-      → rest ≡ payloadOf h f → p ≡ stretchOf own (s .ports) rest k → placeIn s h f k ≡ inFrame (headerEnd h) p
-  unfolding placeIn
-  placed own rest p operates mine e q = rw (operates, q, e, mine)
-
-  pub placed-inside
-      : (own : PortId) (rest : List ℕ) (p : found.StretchPlace) → rest ≡ payloadOf h f → headerEnd h ≤ length f → p ≡ stretchOf own (s .ports) rest k
-      → headerEnd h + (p .stretch .at + p .stretch .bytes) ≤ length f
-  placed-inside own rest p e fits q =
-      let i = stretch-inside own (s .ports) rest k in
-      let n : length rest ≡ length f - headerEnd h = ap length e ∙ length-drop (headerEnd h) f in
-      omega (arith, ap (λ (x : found.StretchPlace). x .stretch .at) q, ap (λ (x : found.StretchPlace). x .stretch .bytes) q)
+-- what the search finds, as the call tells it
+pub placed
+    : (s : Station) (h : Hlend) (f : List ℕ) (k : ℕ) (own : PortId) (begins : ℕ) (p : found.StretchPlace) → isOperating (s .activation) ≡ true
+    → own ≡ managementPort (s .link .onu) → begins ≡ headerEnd h → p ≡ stretchOf own (s .ports) begins f k → told p ≡ placeIn s h f k
+unfolding placeIn
+placed s h f k own begins p operates mine e q = rw (operates, q, e, mine)
 
 -- ---- the stretch lies within the frame, so that it is cut out whole
 
@@ -114,22 +104,15 @@ module _ (s : Station) (h : Hlend) (f : List ℕ) (k : ℕ) where
 abbrev Within : ℕ → StretchPlace → Type 0
 Within n p = p .at + p .bytes ≤ n
 
-in-frame : (begins n : ℕ) (p : found.StretchPlace) → begins + (p .stretch .at + p .stretch .bytes) ≤ n → Within n (inFrame begins p)
-in-frame begins n p h = go (eqb (p .stretch .bytes) 0)
-  where
-    go : (b : Bool) → Within n (cond b (empty (answerIf (p .lost))) (record { answer = answerIf (p .lost); at = begins + p .stretch .at; bytes = p .stretch .bytes }))
-    go true = omega arith
-    go false = omega arith
-
-within-place : (s : Station) (h : Hlend) (f : List ℕ) (k : ℕ) → headerEnd h ≤ length f → Within (length f) (placeIn s h f k)
+within-place : (s : Station) (h : Hlend) (f : List ℕ) (k : ℕ) → Within (length f) (placeIn s h f k)
 unfolding placeIn
-within-place s h f k fits = go (isOperating (s .activation))
+within-place s h f k = go (isOperating (s .activation))
   where
     own : PortId
     own = managementPort (s .link .onu)
 
-    go : (b : Bool) → Within (length f) (cond b (inFrame (headerEnd h) (stretchOf own (s .ports) (payloadOf h f) k)) (empty Done))
-    go true = in-frame (headerEnd h) (length f) (stretchOf own (s .ports) (payloadOf h f) k) (placed-inside s h f k own (payloadOf h f) (stretchOf own (s .ports) (payloadOf h f) k) refl fits refl)
+    go : (b : Bool) → Within (length f) (cond b (told (stretchOf own (s .ports) (headerEnd h) f k)) (empty Done))
+    go true = stretch-inside own (s .ports) (headerEnd h) f k
     go false = omega arith
 
 pub within-frame : (s : Station) (f : List ℕ) (k : ℕ) → Within (length f) (stretchPlace s f k)
@@ -139,7 +122,7 @@ within-frame s f k = go (opening s f true) refl
     go : (o : Opening) → opening s f true ≡ o → Within (length f) (placeBy o s f k)
     go (Refused answer) e = omega arith
     go (Unread answer) e = omega arith
-    go (Opened h) e = within-place s h f k (opened s f true h e .fits)
+    go (Opened h) e = within-place s h f k
 
 pub cut-fully
     : (s : Station) (f : List ℕ) (k : ℕ) (p : StretchPlace) → p ≡ stretchPlace s f k

@@ -15,8 +15,9 @@ use Rattle.xgtc.specs.Layouts.{hlendOf}
 use Rattle.xgem.specs.Reads.{Found, fields, unreadable, short, taken}
 use Rattle.xgtc.specs.Reads.{readHlend}
 use Rattle.station.specs.declared.Station.{Station}
-use Rattle.station.specs.declared.answers.Answer.{Answer}
-use Rattle.station.specs.declared.answers.Answer.the-variants.{Done, StateOutOfRange, FrameLengthUnfit, BufferTooShort, HlendUnreadable, HeaderTooLong, DelineationLost, PortOutOfRange, PortHeldOrNotHeld, SlotsTaken, KeyRefused, NotWritten}
+use Rattle.answers.specs.declared.Answer.{Answer}
+use Rattle.answers.specs.declared.Answer.the-variants.{Done, StateOutOfRange, FrameLengthUnfit, BufferTooShort, HlendUnreadable, HeaderTooLong, DelineationLost}
+use Rattle.answers.specs.Answers.{answerNumber}
 use Rattle.station.specs.States.{isOperating}
 use Rattle.validity.specs.Ranges.{inRange}
 use Rattle.validity.proofs.Tests.{both}
@@ -29,15 +30,18 @@ use Rattle.downstream.specs.Partitions.{headerEnd, payloadOf}
 use Rattle.downstream.specs.Opening.{byHlend, opening}
 use Rattle.frame.specs.Given.{Arrival, Lent, buffersFit}
 use Rattle.frame.specs.Frame.{FrameLeft, unread, answerTo, payloadIn, done, handled, byOpening, frameLeft}
-use Rattle.engine.specs.Answers.{Passed, lostIn, Handled, Row}
+use Rattle.engine.specs.Answers.{Passed, lostIn, Handled, Row, done as done-row, state-out-of-range, frame-length-unfit, buffer-too-short, hlend-unreadable, header-too-long, delineation-lost}
 
 -- ---- the answer of a frame that is done
+
+abbrev number : FrameLeft → ℕ
+number left = answerNumber (left .outcome .answer)
 
 answer-lost : (lost : Bool) → answerTo (delineationOf lost) ≡ cond lost DelineationLost Done
 answer-lost true = refl
 answer-lost false = refl
 
-done-answer : (s : Station) (h : Hlend) (a : Arrival) (lent : Lent) → handled s h a lent .outcome .answer ≡ cond (lostIn s h a) DelineationLost Done
+pub done-answer : (s : Station) (h : Hlend) (a : Arrival) (lent : Lent) → handled s h a lent .outcome .answer ≡ cond (lostIn s h a) DelineationLost Done
 unfolding handled done payloadIn walkOf leftBy lostIn
 done-answer s h a lent = go (isOperating (s .activation))
   where
@@ -67,37 +71,37 @@ not-short f h e = nowhere (reading 32 (value (take 4 f))) (rw (both (leb 4 (leng
 module _ (s : Station) (arrived : Arrival) (lent : Lent) where
   -- the row of what is left, by its own answer
   abbrev Rowed : FrameLeft → Type 0
-  Rowed left = Row s arrived lent (left .outcome .answer) left
+  Rowed left = Row s arrived lent left (answerNumber (left .outcome .answer))
 
   handled-row : Passed s arrived lent → (h : Hlend) → readHlend (arrived .octets) ≡ fields h → headerEnd h ≤ length (arrived .octets) → Rowed (handled s h arrived lent)
-  handled-row p h e fits = subst (λ (a : Answer). Row s arrived lent a (handled s h arrived lent)) (sym (done-answer s h arrived lent)) (go (lostIn s h arrived) refl)
+  handled-row p h e fits = subst (λ (a : Answer). Row s arrived lent (handled s h arrived lent) (answerNumber a)) (sym (done-answer s h arrived lent)) (go (lostIn s h arrived) refl)
     where
       whole : (b : Bool) → lostIn s h arrived ≡ b → Handled s arrived lent b (handled s h arrived lent)
       whole b q = record { passed = p; hlend = h; reads = e; fits = fits; delineation = q; leaves = refl }
 
-      go : (b : Bool) → lostIn s h arrived ≡ b → Row s arrived lent (cond b DelineationLost Done) (handled s h arrived lent)
-      go true q = whole true q
-      go false q = whole false q
+      go : (b : Bool) → lostIn s h arrived ≡ b → Row s arrived lent (handled s h arrived lent) (answerNumber (cond b DelineationLost Done))
+      go true q = delineation-lost (whole true q)
+      go false q = done-row (whole false q)
 
   hlend-row : Passed s arrived lent → (r : Found Hlend) → readHlend (arrived .octets) ≡ r → Rowed (byOpening (byHlend r (length (arrived .octets))) s arrived lent)
-  hlend-row p unreadable e = (p, e, refl)
+  hlend-row p unreadable e = hlend-unreadable p e refl
   hlend-row p short e = absurd (not-short (arrived .octets) (p .frame) e)
   hlend-row p (fields h) e = go (leb (headerEnd h) (length (arrived .octets))) refl
     where
       go : (b : Bool) → leb (headerEnd h) (length (arrived .octets)) ≡ b → Rowed (byOpening (cond b (Opened h) (Unread HeaderTooLong)) s arrived lent)
       go true q = handled-row p h e (leb-true (headerEnd h) (length (arrived .octets)) q)
-      go false q = (record { passed = p; hlend = h; reads = e; longer = leb-false (headerEnd h) (length (arrived .octets)) q }, refl)
+      go false q = header-too-long (record { passed = p; hlend = h; reads = e; longer = leb-false (headerEnd h) (length (arrived .octets)) q }) refl
 
-  pub table : Row s arrived lent (frameLeft s arrived lent .outcome .answer) (frameLeft s arrived lent)
+  pub table : Row s arrived lent (frameLeft s arrived lent) (answerNumber (frameLeft s arrived lent .outcome .answer))
   unfolding frameLeft opening
   table = go (inRange s) refl (lengthFits (length (arrived .octets))) refl (buffersFit arrived lent) refl
     where
       go
           : (a : Bool) → inRange s ≡ a → (b : Bool) → lengthFits (length (arrived .octets)) ≡ b → (c : Bool) → buffersFit arrived lent ≡ c
           → Rowed (byOpening (cond (not a) (Refused StateOutOfRange) (cond (not b) (Refused FrameLengthUnfit) (cond (not c) (Refused BufferTooShort) (byHlend (readHlend (arrived .octets)) (length (arrived .octets)))))) s arrived lent)
-      go false p b q c r = (p, refl)
-      go true p false q c r = (p, q, refl)
-      go true p true q false r = (p, q, r, refl)
+      go false p b q c r = state-out-of-range p refl
+      go true p false q c r = frame-length-unfit p q refl
+      go true p true q false r = buffer-too-short p q r refl
       go true p true q true r = hlend-row (record { state = p; frame = q; buffers = r }) (readHlend (arrived .octets)) refl
 
   -- ---- a row that holds is the frame call's
@@ -117,21 +121,19 @@ module _ (s : Station) (arrived : Arrival) (lent : Lent) where
         ap (λ (x : FrameLeft). x .outcome .answer) (r .leaves) ∙ done-answer s (r .hlend) arrived lent ∙ ap (λ (b : Bool). cond b DelineationLost Done) (r .delineation),
       )
 
+  numbered : (left : FrameLeft) (answer : Answer) → left .outcome .answer ≡ answer → answerNumber (left .outcome .answer) ≡ answerNumber answer
+  numbered left answer e = ap answerNumber e
+
   pub only
-      : (a : Answer) (left : FrameLeft) → Row s arrived lent a left → (left ≡ frameLeft s arrived lent) × (left .outcome .answer ≡ a)
+      : (n : ℕ) (left : FrameLeft) → Row s arrived lent left n → (left ≡ frameLeft s arrived lent) × (answerNumber (left .outcome .answer) ≡ n)
   unfolding frameLeft opening
-  only Done left r = handled-only false left r
-  only StateOutOfRange left (p, e) = (e ∙ rw p, ap (λ (x : FrameLeft). x .outcome .answer) e)
-  only FrameLengthUnfit left (p, q, e) = (e ∙ rw (p, q), ap (λ (x : FrameLeft). x .outcome .answer) e)
-  only BufferTooShort left (p, q, r, e) = (e ∙ rw (p, q, r), ap (λ (x : FrameLeft). x .outcome .answer) e)
-  only HlendUnreadable left (p, q, e) =
-      (e ∙ ap (λ (r : Found Hlend). byOpening (byHlend r (length (arrived .octets))) s arrived lent) (sym q) ∙ passed-on p, ap (λ (x : FrameLeft). x .outcome .answer) e)
-  only HeaderTooLong left (t, e) =
+  only n left (done-row r) = let o = handled-only false left r in (o .0, numbered left Done (o .1))
+  only n left (state-out-of-range p e) = (e ∙ rw p, ap number e)
+  only n left (frame-length-unfit p q e) = (e ∙ rw (p, q), ap number e)
+  only n left (buffer-too-short p q r e) = (e ∙ rw (p, q, r), ap number e)
+  only n left (hlend-unreadable p q e) =
+      (e ∙ ap (λ (r : Found Hlend). byOpening (byHlend r (length (arrived .octets))) s arrived lent) (sym q) ∙ passed-on p, ap number e)
+  only n left (header-too-long t e) =
       let cut : unread HeaderTooLong s lent ≡ byOpening (byHlend (fields (t .hlend)) (length (arrived .octets))) s arrived lent = rw (lt-leb (headerEnd (t .hlend)) (length (arrived .octets)) (t .longer)) in
-      (e ∙ cut ∙ by-fields (t .hlend) (t .reads) ∙ passed-on (t .passed), ap (λ (x : FrameLeft). x .outcome .answer) e)
-  only DelineationLost left r = handled-only true left r
-  only PortOutOfRange left r = absurd r
-  only PortHeldOrNotHeld left r = absurd r
-  only SlotsTaken left r = absurd r
-  only KeyRefused left r = absurd r
-  only NotWritten left r = absurd r
+      (e ∙ cut ∙ by-fields (t .hlend) (t .reads) ∙ passed-on (t .passed), ap number e)
+  only n left (delineation-lost r) = let o = handled-only true left r in (o .0, numbered left DelineationLost (o .1))

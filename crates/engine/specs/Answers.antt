@@ -1,6 +1,6 @@
 -- The paper's table "What comes back", for the frame call: when each number is given, and what is left.
 -- Assumes nothing.
-use Prim.Native.Nat.{_≤_, _<_}
+use Prim.Native.Nat.{ℕ, _≤_, _<_}
 use mathlib.Core.Path.{_≡_}
 use mathlib.Core.Bool.{Bool, true, false, _&&_}
 use lib.ListN.{length}
@@ -8,8 +8,7 @@ use Rattle.xgtc.specs.declared.hlend.Hlend.{Hlend}
 use Rattle.xgem.specs.Reads.{fields, unreadable}
 use Rattle.xgtc.specs.Reads.{readHlend}
 use Rattle.station.specs.declared.Station.{Station}
-use Rattle.station.specs.declared.answers.Answer.{Answer}
-use Rattle.station.specs.declared.answers.Answer.the-variants.{Done, StateOutOfRange, FrameLengthUnfit, BufferTooShort, HlendUnreadable, HeaderTooLong, DelineationLost, PortOutOfRange, PortHeldOrNotHeld, SlotsTaken, KeyRefused, NotWritten}
+use Rattle.answers.specs.declared.Answer.the-variants.{StateOutOfRange, FrameLengthUnfit, BufferTooShort, HlendUnreadable, HeaderTooLong}
 use Rattle.station.specs.States.{isOperating}
 use Rattle.validity.specs.Ranges.{inRange}
 use Rattle.payload.specs.Frames.{parse}
@@ -44,19 +43,13 @@ pub record Handled (s : Station) (a : Arrival) (lent : Lent) (lost : Bool) (left
   pub delineation : lostIn s hlend a ≡ lost
   pub leaves : left ≡ handled s hlend a lent
 
--- the row of each answer, in the order of their numbers: when it is given, and what the call returns and leaves
-abbrev pub Row : Station → Arrival → Lent → Answer → FrameLeft → Type 0
-Row s a lent Done left = Handled s a lent false left
-Row s a lent StateOutOfRange left = (inRange s ≡ false) × (left ≡ refused StateOutOfRange s lent)
-Row s a lent FrameLengthUnfit left = (inRange s ≡ true) × (lengthFits (length (a .octets)) ≡ false) × (left ≡ refused FrameLengthUnfit s lent)
-Row s a lent BufferTooShort left =
-    (inRange s ≡ true) × (lengthFits (length (a .octets)) ≡ true) × (buffersFit a lent ≡ false) × (left ≡ refused BufferTooShort s lent)
-Row s a lent HlendUnreadable left = Passed s a lent × (readHlend (a .octets) ≡ unreadable) × (left ≡ unread HlendUnreadable s lent)
-Row s a lent HeaderTooLong left = TooLong s a lent × (left ≡ unread HeaderTooLong s lent)
-Row s a lent DelineationLost left = Handled s a lent true left
--- the numbers of other calls
-Row s a lent PortOutOfRange left = ⊥
-Row s a lent PortHeldOrNotHeld left = ⊥
-Row s a lent SlotsTaken left = ⊥
-Row s a lent KeyRefused left = ⊥
-Row s a lent NotWritten left = ⊥
+-- the row of each answer by its number: when it is given, and what the call returns and leaves. The frame call has no other number
+pub data Row (s : Station) (a : Arrival) (lent : Lent) (left : FrameLeft) : ℕ → Type 0 where
+  done : Handled s a lent false left → Row s a lent left 0
+  state-out-of-range : inRange s ≡ false → left ≡ refused StateOutOfRange s lent → Row s a lent left 1
+  frame-length-unfit : inRange s ≡ true → lengthFits (length (a .octets)) ≡ false → left ≡ refused FrameLengthUnfit s lent → Row s a lent left 2
+  buffer-too-short
+      : inRange s ≡ true → lengthFits (length (a .octets)) ≡ true → buffersFit a lent ≡ false → left ≡ refused BufferTooShort s lent → Row s a lent left 3
+  hlend-unreadable : Passed s a lent → readHlend (a .octets) ≡ unreadable → left ≡ unread HlendUnreadable s lent → Row s a lent left 4
+  header-too-long : TooLong s a lent → left ≡ unread HeaderTooLong s lent → Row s a lent left 5
+  delineation-lost : Handled s a lent true left → Row s a lent left 6

@@ -1,24 +1,35 @@
--- "invented counts of records, replies or bytes (each equals what was written)"; "Past what is written, plan, replies, deliveries
--- .. keep their old content"
+-- "invented counts of .. bytes (each equals what was written)"; "Past what is written, .. deliveries and slots keep their old content":
+-- what a frame that is handled leaves of deliveries and port memory.
 -- Assumes nothing.
-use Prim.Native.Nat.{ℕ, _*_}
+use Prim.Native.Nat.{ℕ}
 use mathlib.Core.Path.{_≡_}
-use mathlib.Core.List.{List, _++_}
-use lib.ListN.{length, drop}
+use mathlib.Core.Bool.{cond}
+use mathlib.Core.List.{List, []}
+use lib.ListN.{length, take, drop}
+use Rattle.ids.specs.declared.PortId.{PortId}
+use Rattle.xgtc.specs.declared.hlend.Hlend.{Hlend}
 use Rattle.station.specs.declared.Station.{Station}
-use Rattle.replies.specs.Replies.{repliesFrom}
-use Rattle.plan.specs.Limits.{numbersARecord}
-use Rattle.frame.specs.Given.{Arrival, Lent}
-use Rattle.frame.specs.Frame.{FrameLeft}
+use Rattle.station.specs.States.{isOperating}
+use Rattle.payload.specs.Frames.{Xgem, parse}
+use Rattle.payload.specs.Memory.{Receiver, receiverOf}
+use Rattle.payload.specs.Deliveries.{deliveriesOf}
+use Rattle.payload.specs.Appends.{appendsOf, laid, InSlots}
+use Rattle.downstream.specs.Partitions.{headerEnd, payloadOf}
+use Rattle.frame.specs.Given.{Lent}
 
-pub record Counted (s : Station) (a : Arrival) (lent : Lent) (left : FrameLeft) : Type 0 where
-  -- so many records of four numbers, then the plan as it was
-  pub numbers : List ℕ
-  pub plan : left .lent .plan ≡ numbers ++ drop (length numbers) (lent .plan)
-  pub records : length numbers ≡ numbersARecord * left .counts .records
-  -- so many replies of the station, one after another, each in its own 48 octets
-  pub replies : left .lent .replies ≡ repliesFrom s (a .randomDelay) (lent .replies) 0 (left .counts .replies) .octets
-  -- so many bytes, then the deliveries as they were
-  pub octets : List ℕ
-  pub deliveries : left .lent .deliveries ≡ octets ++ drop (length octets) (lent .deliveries)
-  pub bytes : length octets ≡ left .counts .bytes
+-- "Payload, in O5 only": the XGEM frames that are met
+abbrev pub xgemFrames : Station → Hlend → List ℕ → List Xgem
+xgemFrames s h f = cond (isOperating (s .activation)) (parse (headerEnd h) (payloadOf h f) .frames) []
+
+-- what a walk over them begins with
+abbrev pub receiving : Station → Lent → Receiver
+receiving s lent = receiverOf (s .ports) 0 (lent .memory) (lent .deliveries)
+
+-- after a walk over frames so many bytes are the deliveries of their SDUs, one behind the other; what is appended to slots lies behind
+-- its port's partial and within the slot; all else is as it was
+pub record Received (own : PortId) (begun : Receiver) (frames : List Xgem) (bytes : ℕ) (deliveries memory : List ℕ) : Type 0 where
+  pub count : bytes ≡ length (deliveriesOf own begun frames)
+  pub delivered : take bytes deliveries ≡ deliveriesOf own begun frames
+  pub kept : drop bytes deliveries ≡ drop bytes (begun .deliveries)
+  pub slots : memory ≡ laid (begun .memory) (appendsOf own begun frames)
+  pub within : InSlots (appendsOf own begun frames)

@@ -3,3 +3,4 @@ pub mod Alike
 pub mod Counts
 pub mod Lods
 pub mod Stretch
+pub mod Each

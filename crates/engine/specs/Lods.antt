@@ -3,10 +3,10 @@
 use mathlib.Core.Path.{_≡_}
 use mathlib.Core.Bool.{not, cond}
 use Rattle.station.specs.declared.Station.{Station}
-use Rattle.station.specs.declared.answers.Answer.the-variants.{Done, StateOutOfRange}
+use Rattle.answers.specs.declared.Answer.the-variants.{Done, StateOutOfRange}
 use Rattle.validity.specs.Ranges.{inRange}
 use Rattle.timing.specs.Timing.{lostTime}
-use Rattle.station.specs.declared.answers.Outcome.{Outcome}
+use Rattle.station.specs.declared.Outcome.{Outcome}
 
 -- 1: "state out of range: nothing changed"
 unfoldable pub lostLeft : Station → Outcome

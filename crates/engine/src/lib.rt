@@ -7,7 +7,9 @@ mod stretching;
 // The station's state, by value; `Station::power_on` gives O1 with nothing held or carried, and has no refusal.
 pub use station::Station;
 // What every call but the stretch and the writers comes back with: its answer, and the state that it leaves.
-pub use station::answers::Outcome;
+pub use station::Outcome;
+// Whether a state is in range: what every call asks first, and answers 1 where it is not.
+pub use validity::in_range;
 // A frame has arrived: the plan of upstream bursts, the replies, the SDUs and the next state. Answers 0 to 6.
 pub use frame::Counts;
 pub use frame::FrameOutcome;
@@ -19,6 +21,10 @@ pub use stretching::StretchPlace;
 pub use stretching::stretch_place;
 // That part of the frame itself, exactly as long as the SDU, or the empty one.
 pub use stretching::stretch;
+// Where all of them stand, into a lent list. Answers 0 to 6.
+pub use stretching::BYTES_A_NUMBER;
+pub use stretching::StretchPlaces;
+pub use stretching::stretch_places;
 // The host adds a port, in the lowest empty slot. Answers 0, 1, 7, 8 or 9.
 pub use host::add_port;
 // The host removes a port. Answers 0, 1, 7 or 8.

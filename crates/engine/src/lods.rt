@@ -1,9 +1,9 @@
 // A frame time that is lost.
 ghost use mathlib.Core.Path.{_≡_};
 ghost use Rattle.engine.specs.Lods.{LostLeaves, lostLeft};
+use answers::Answer;
+use station::Outcome;
 use station::Station;
-use station::answers::Answer;
-use station::answers::Outcome;
 
 // A frame time in which the synchroniser reports LODS. Answers 0, or 1 with the state as it was.
 pub fn lost(s: Station) -> Outcome

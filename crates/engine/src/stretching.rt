@@ -1,22 +1,32 @@
 // An unfragmented SDU as its own stretch of the caller's frame.
 ghost use mathlib.Core.Path.{_≡_};
 ghost use mathlib.Core.Bool.{true};
-ghost use Prim.Native.Nat.{_≤_};
+ghost use Prim.Native.Nat.{_/_, _≤_};
 ghost use lib.ListN.{length};
-ghost use Rattle.downstream.specs.Partitions.{headerEnd};
-ghost use Rattle.engine.specs.Stretch.{empty, answerIf, placeIn, PlaceIs, StretchIs};
+ghost use Rattle.engine.specs.Stretch.{empty, answerIf, placeIn, PlaceIs, StretchIs, bytesANumber, placesIn, PlacesAre};
+use answers::Answer;
 use downstream::Opening;
 use downstream::partitions;
 use station::Station;
-use station::answers::Answer;
 use stretches::Extent;
 use xgtc::hlend::Hlend;
+
+// A list of places has a number for each so many bytes of the frame: a delivery takes 16 of them, a header of 8 and 8 at least, and
+// two numbers.
+pub const BYTES_A_NUMBER: usize = 8;
 
 // Where in the frame the stretch stands, and its length; the frame call's answer, without 3.
 pub struct StretchPlace {
     pub answer: Answer,
     pub at: usize,
     pub bytes: usize,
+}
+
+// How many deliveries the frame has, each with its place and length in the lent list; the frame call's answer, where 3 is about
+// the list.
+pub struct StretchPlaces {
+    pub answer: Answer,
+    pub count: usize,
 }
 
 fn empty(answer: Answer) -> StretchPlace
@@ -39,7 +49,6 @@ fn answer_if(lost: bool) -> Answer
 }
 
 fn place_in(s: Station, h: Hlend, frame: &[u8], k: usize) -> StretchPlace
-    requires { ⌜ headerEnd h ≤ length (now frame) ⌝ }
     ensures { λ r. ⌜ r ≡ placeIn s h (now (frame .entry)) k ⌝ }
 {
     let arrived = s.activation;
@@ -50,15 +59,11 @@ fn place_in(s: Station, h: Hlend, frame: &[u8], k: usize) -> StretchPlace
     let link = s.link;
     let onu = link.onu;
     let ports = s.ports;
-    let p = stretches::stretch_place(ports, onu.management_port(), &frame[end..], k);
+    let p = stretches::stretch_place(ports, onu.management_port(), frame, end, k);
     let t = p.stretch;
-    let answer = answer_if(p.lost);
-    if t.bytes == 0 {
-        return empty(answer);
-    }
     StretchPlace {
-        answer: answer,
-        at: end + t.at,
+        answer: answer_if(p.lost),
+        at: t.at,
         bytes: t.bytes,
     }
 }
@@ -87,4 +92,45 @@ pub fn stretch(s: Station, frame: &[u8], k: usize) -> &[u8]
             bytes: p.bytes,
         },
     )
+}
+
+fn nothing(answer: Answer) -> StretchPlaces
+    ensures { λ r. ⌜ r ≡ record { answer = answer; count = 0 } ⌝ }
+{
+    StretchPlaces {
+        answer: answer,
+        count: 0,
+    }
+}
+
+fn places_in(s: Station, h: Hlend, frame: &[u8], places: &mut [usize]) -> StretchPlaces
+    requires { ⌜ length (now frame) / bytesANumber ≤ length (now places) ⌝ }
+    ensures { λ r. ⌜ record { found = r; places = now (places .exit) } ≡ placesIn s h (now (frame .entry)) (now (places .entry)) ⌝ }
+{
+    let arrived = s.activation;
+    if !arrived.is_operating() {
+        return nothing(Answer::Done);
+    }
+    let end = partitions::header_end(h);
+    let link = s.link;
+    let onu = link.onu;
+    let ports = s.ports;
+    let p = stretches::stretch_places(ports, onu.management_port(), frame, end, 0, places);
+    StretchPlaces {
+        answer: answer_if(p.lost),
+        count: p.count,
+    }
+}
+
+// The places of all deliveries in the frame, offset and length of each, one after the other: what `stretch_place` gives for each.
+pub fn stretch_places(s: Station, frame: &[u8], places: &mut [usize]) -> StretchPlaces
+    ensures { λ r. ⌜ PlacesAre s (now (frame .entry)) (now (places .entry)) r (now (places .exit)) ⌝ }
+{
+    let valid = validity::in_range(s);
+    let room = frame.len() / BYTES_A_NUMBER <= places.len();
+    match downstream::open(valid, frame, room) {
+        Opening::Refused(answer) => nothing(answer),
+        Opening::Unread(answer) => nothing(answer),
+        Opening::Opened(h) => places_in(s, h, frame, places),
+    }
 }

@@ -8,7 +8,7 @@ use Rattle.ids.specs.declared.PortId.{PortId}
 use Rattle.fragments.specs.declared.Reassembly.{Reassembly}
 use Rattle.fragments.specs.Fragments.{reassemblyIn}
 
--- reassembly_in and reassembly_of have one contract, over the ports by their parts and over the ports
+-- of `reassembly_in` and of `reassembly_of`, which have one contract
 pub reassembly-once : (ids : List PortId) (lengths : List ℕ) (waiting : List Bool) (own port : PortId) (last : Bool) (n : ℕ) (a b : Reassembly)
     → a ≡ reassemblyIn ids lengths waiting own port last n → b ≡ reassemblyIn ids lengths waiting own port last n → a ≡ b
 reassembly-once ids lengths waiting own port last n a b x y = x ∙ sym y

@@ -5,12 +5,11 @@ ghost use Prim.Native.Nat.{_+_, _≤_, _<_};
 ghost use Rattle.ids.specs.Ids.{samePort};
 ghost use Rattle.ports.specs.Limits.{slots, addedPorts};
 ghost use Rattle.ids.specs.Places.{Below, placeFrom};
-ghost use Rattle.fragments.specs.Fragments.{behind, slotIn, slotOf, atSlot, atPlace, reassemblyIn, reassemblyOf};
+ghost use Rattle.fragments.specs.Fragments.{behind, slotIn, atSlot, atPlace, reassemblyIn};
 ghost use Rattle.fragments.specs.Marks.{marks};
 use ids::Place;
 use ids::PortId;
 use ports::ADDED_PORTS;
-use ports::Ports;
 use ports::SDU_BYTES;
 use ports::SLOTS;
 
@@ -165,25 +164,46 @@ pub fn reassembly_in(
     at_place(lengths, waiting, slot, last, n)
 }
 
-fn slot_of(ports: Ports, own: PortId, port: PortId) -> Place
-    ensures { λ r. ⌜ (r ≡ slotOf ports own port) × (Below r slots) ⌝ }
+// The search for a stretch has functions of its own for this: with a second caller those of the walk, whose two tests stand the other
+// way round, were no longer merged into its loop.
+fn place_of(ids: [PortId; ADDED_PORTS], id: PortId) -> Place
+    ensures { λ r. ⌜ r ≡ placeFrom (samePort id) 0 ids ⌝ }
+{
+    let sum = marks_of(ids, id);
+    if 512 <= sum {
+        return first_place(ids, id);
+    }
+    if 256 <= sum {
+        return Place::At((sum - 256) as usize);
+    }
+    Place::Nowhere
+}
+
+fn slot_of(ids: [PortId; ADDED_PORTS], own: PortId, port: PortId) -> Place
+    ensures { λ r. ⌜ (r ≡ slotIn ids own port) × (Below r slots) ⌝ }
 {
     if port.is_assignable() {
-        behind(ports.place(port))
+        behind(place_of(ids, port))
     } else {
         management(own, port)
     }
 }
 
-// For the search for a stretch, which is not to be a second caller of `reassembly_in`.
-pub fn reassembly_of(ports: Ports, own: PortId, port: PortId, last: bool, n: u16) -> Reassembly
-    ensures { λ r. ⌜ r ≡ reassemblyOf ports own port last n ⌝ }
+// What `reassembly_in` decides, for the search for a stretch.
+pub fn reassembly_of(
+    ids: [PortId; ADDED_PORTS],
+    lengths: &[u16; SLOTS],
+    waiting: &[bool; SLOTS],
+    own: PortId,
+    port: PortId,
+    last: bool,
+    n: u16,
+) -> Reassembly
+    ensures { λ r. ⌜ r ≡ reassemblyIn ids (now (lengths .entry)) (now (waiting .entry)) own port last n ⌝ }
 {
     if n != 0 {
-        let slot = slot_of(ports, own, port);
-        let lengths = ports.lengths;
-        let waiting = ports.waiting;
-        at_place(&lengths, &waiting, slot, last, n)
+        let slot = slot_of(ids, own, port);
+        at_place(lengths, waiting, slot, last, n)
     } else {
         Reassembly::Ignored
     }

@@ -12,7 +12,7 @@ use borrow.Author.Tests.{leb-true, le-leb, eqb-true}
 use Rattle.ids.specs.declared.PortId.{PortId}
 use Rattle.ids.specs.Ids.{managementPort}
 use Rattle.station.specs.declared.Station.{Station}
-use Rattle.station.specs.declared.answers.Answer.{Answer}
+use Rattle.answers.specs.declared.Answer.{Answer}
 use Rattle.station.specs.Station.{withPorts, withCarried}
 use Rattle.timing.specs.Timing.{frameEnd}
 use Rattle.messages.specs.Receiving.{receiveAll, messagesIn}

@@ -7,9 +7,9 @@ use mathlib.Core.List.{List}
 use Rattle.ids.specs.Ids.{managementPort}
 use Rattle.xgtc.specs.declared.hlend.Hlend.{Hlend}
 use Rattle.station.specs.declared.Station.{Station}
-use Rattle.station.specs.declared.answers.Answer.{Answer}
-use Rattle.station.specs.declared.answers.Answer.the-variants.{Done, BufferTooShort, DelineationLost}
-use Rattle.station.specs.declared.answers.Outcome.{Outcome}
+use Rattle.answers.specs.declared.Answer.{Answer}
+use Rattle.answers.specs.declared.Answer.the-variants.{Done, BufferTooShort, DelineationLost}
+use Rattle.station.specs.declared.Outcome.{Outcome}
 use Rattle.station.specs.States.{isOperating, isRanging}
 use Rattle.station.specs.Station.{withPorts, withCarried}
 use Rattle.timing.specs.Timing.{frameEnd, unreadTime}

@@ -15,6 +15,7 @@ ghost use Rattle.frame.specs.Frame.{leaving, noCounts, without, answerTo
 
 pub mod given;
 
+use answers::Answer;
 use bwmap::Plan;
 use downstream::Opening;
 use downstream::partitions;
@@ -22,7 +23,6 @@ use entries::Own;
 use payload::Delineation;
 use payload::Received;
 use station::Station;
-use station::answers::Answer;
 use xgtc::hlend::Hlend;
 
 // How much a frame call has written: records of four numbers in the plan, messages of 48 octets in the replies, bytes in the
@@ -190,6 +190,7 @@ pub fn frame(
 ) -> FrameOutcome
     ensures { λ r. ⌜ FrameLeaves s (arriving (now (frame .entry)) «random_delay») (lending (now (memory .entry)) (now (plan .entry)) (now (replies .entry)) (now (deliveries .entry))) r (lending (now (memory .exit)) (now (plan .exit)) (now (replies .exit)) (now (deliveries .exit))) ⌝ }
 {
+    let valid = validity::in_range(s);
     let room = given::enough(
         frame.len(),
         memory.len(),
@@ -197,7 +198,6 @@ pub fn frame(
         replies.len(),
         deliveries.len(),
     );
-    let valid = validity::in_range(s);
     match downstream::open(valid, frame, room) {
         Opening::Refused(answer) => without(answer, s),
         Opening::Unread(answer) => without(answer, timing::unread_time(s)),

@@ -3,12 +3,14 @@
 use Prim.Native.Nat.{ℕ}
 use mathlib.Core.Path.{_≡_}
 use mathlib.Core.List.{List}
-use mathlib.Core.Bool.{Bool, true, false, not, cond}
+use mathlib.Core.Bool.{Bool, not, cond}
+use lib.Dec.{eqb}
 use Rattle.ids.specs.declared.PortId.{PortId}
 use Rattle.ids.specs.Ids.{assignablePort}
-use Rattle.station.specs.declared.answers.Answer.{Answer}
-use Rattle.station.specs.declared.answers.Answer.the-variants.{Done, StateOutOfRange, FrameLengthUnfit, BufferTooShort, HlendUnreadable, HeaderTooLong, DelineationLost, PortOutOfRange, PortHeldOrNotHeld, SlotsTaken, KeyRefused, NotWritten}
-use Rattle.station.specs.declared.answers.Outcome.{Outcome}
+use Rattle.answers.specs.declared.Answer.{Answer}
+use Rattle.answers.specs.declared.Answer.the-variants.{Done, StateOutOfRange, PortOutOfRange, PortHeldOrNotHeld, SlotsTaken, KeyRefused}
+use Rattle.answers.specs.Answers.{answerNumber}
+use Rattle.station.specs.declared.Outcome.{Outcome}
 use Rattle.station.specs.declared.Station.{Station}
 use Rattle.ids.specs.Places.{isHeld}
 use Rattle.station.specs.States.{holdsIdentity}
@@ -18,18 +20,7 @@ use Rattle.station.specs.Station.{withLink, withPorts}
 use Rattle.validity.specs.Ranges.{inRange}
 
 abbrev pub done : Answer → Bool
-done Done = true
-done StateOutOfRange = false
-done FrameLengthUnfit = false
-done BufferTooShort = false
-done HlendUnreadable = false
-done HeaderTooLong = false
-done DelineationLost = false
-done PortOutOfRange = false
-done PortHeldOrNotHeld = false
-done SlotsTaken = false
-done KeyRefused = false
-done NotWritten = false
+done answer = eqb (answerNumber answer) 0
 
 -- "nothing changed" after each of 1, 7, 8, 9 and 10
 abbrev pub outcome : Answer → Station → Station → Outcome

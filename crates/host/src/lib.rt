@@ -2,29 +2,16 @@
 ghost use mathlib.Core.Path.{_≡_};
 ghost use Rattle.host.specs.Host.{done, outcome, answerToAdd, answerToRemove, answerToKey};
 ghost use Rattle.host.specs.Host.{AddLeaves, RemoveLeaves, KeyLeaves, afterAdd, afterRemove, afterKey};
+use answers::Answer;
 use ids::PortId;
 use link::Key;
+use station::Outcome;
 use station::Station;
-use station::answers::Answer;
-use station::answers::Outcome;
 
 fn is_done(answer: Answer) -> bool
     ensures { λ r. ⌜ r ≡ done answer ⌝ }
 {
-    match answer {
-        Answer::Done => true,
-        Answer::StateOutOfRange => false,
-        Answer::FrameLengthUnfit => false,
-        Answer::BufferTooShort => false,
-        Answer::HlendUnreadable => false,
-        Answer::HeaderTooLong => false,
-        Answer::DelineationLost => false,
-        Answer::PortOutOfRange => false,
-        Answer::PortHeldOrNotHeld => false,
-        Answer::SlotsTaken => false,
-        Answer::KeyRefused => false,
-        Answer::NotWritten => false,
-    }
+    answer.number() == 0
 }
 
 // Refused, the call leaves the station as it was.

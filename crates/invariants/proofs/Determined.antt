@@ -7,7 +7,7 @@ use mathlib.Core.List.{List}
 use Rattle.ids.specs.declared.PortId.{PortId}
 use Rattle.ploam.specs.declared.Message.{Message}
 use Rattle.station.specs.declared.Station.{Station}
-use Rattle.station.specs.declared.answers.Outcome.{Outcome}
+use Rattle.station.specs.declared.Outcome.{Outcome}
 use Rattle.host.specs.Host.{AddLeaves, RemoveLeaves, KeyLeaves}
 use Rattle.effects.specs.declared.Effect.{Effect}
 use Rattle.effects.specs.Changes.{Applies}

@@ -15,7 +15,7 @@ use Rattle.station.specs.declared.Activation.{Activation}
 use Rattle.station.specs.declared.Activation.the-variants.{Initial, SerialNumber, Ranging, Operation, Intermittent, EmergencyStop}
 use Rattle.station.specs.declared.Station.{Station}
 use Rattle.link.specs.declared.Link.{Link}
-use Rattle.station.specs.declared.answers.Answer.{Answer}
+use Rattle.answers.specs.declared.Answer.{Answer}
 use Rattle.station.specs.States.{holdsIdentity}
 use Rattle.link.specs.Limits.{keyOctets}
 use Rattle.link.specs.Link.{nothing, withDelay, withAllocs, withKey, withOwed, addAlloc, removeAlloc, owe, paid, installed}
@@ -37,7 +37,7 @@ use Rattle.replies.specs.Replying.{afterIn, afterReply}
 use Rattle.host.specs.Host.{done, answerToAdd, answerToRemove, answerToKey, afterAdd, afterRemove, afterKey}
 use Rattle.validity.specs.Ranges.{inRange}
 use Rattle.ports.specs.Ports.{addPort, removePort}
-use Rattle.station.specs.declared.answers.Answer.the-variants.{Done, StateOutOfRange, KeyRefused}
+use Rattle.answers.specs.declared.Answer.the-variants.{Done, StateOutOfRange, KeyRefused}
 use Rattle.invariants.proofs.Valid.{steady, ValidChange, ValidDebt, Valid, decision-valid}
 
 -- ---- the statement

@@ -23,7 +23,7 @@ use Rattle.validity.specs.Ranges.{held, portsFit, partialsFit, inRange}
 use Rattle.ids.specs.Places.{isHeld}
 use Rattle.host.specs.Host.{done, answerToAdd, answerToRemove, answerToKey, afterAdd, afterRemove, afterKey}
 use Rattle.host.specs.Host as host
-use Rattle.station.specs.declared.answers.Answer.the-variants.{Done, StateOutOfRange, PortOutOfRange, PortHeldOrNotHeld, SlotsTaken}
+use Rattle.answers.specs.declared.Answer.the-variants.{Done, StateOutOfRange, PortOutOfRange, PortHeldOrNotHeld, SlotsTaken}
 use Rattle.invariants.proofs.Lists.{found-some}
 use Rattle.invariants.proofs.Slots.{some-held, set-fine, slot-changed}
 use Rattle.invariants.proofs.InRange.{Sound}

@@ -21,9 +21,9 @@ use Rattle.link.specs.Limits.{addedAllocs, mostOwed}
 use Rattle.link.specs.Limits as limits
 use Rattle.ports.specs.Limits.{slots, addedPorts}
 use Rattle.layout.specs.Rows.{part, each, many}
-use Rattle.layout.specs.Offsets.{idWidth, markWidth, countWidth, numberAt, numberWidth, timeAt, timeWidth, activationAt, activationWidth, allocIdsAt, allocIdsWidth, allocsWidth, heldAt, keyOctetsAt, keyWidth}
+use Rattle.layout.specs.Offsets.{idWidth, markWidth, countWidth, numberAt, numberWidth, timeAt, timeWidth, versionAt, versionWidth, stateVersion, activationAt, activationWidth, allocIdsAt, allocIdsWidth, allocsWidth, heldAt, keyOctetsAt, keyWidth}
 use Rattle.layout.specs.Offsets.{answerWidth, answersAt, answersWidth, queueWidth, onuAt, allocsAt, delayAt, delayWidth, keyAt, queueAt, linkWidth, portIdsAt, portIdsWidth, lengthsAt, lengthWidth, lengthsWidth, waitingAt, waitingWidth, portsWidth}
-use Rattle.layout.specs.Offsets.{serialAt, registrationAt, linkAt, portsAt, carriedAt, wordsWidth, reservedAt, reservedWidth, stateBytes}
+use Rattle.layout.specs.Offsets.{serialAt, registrationAt, linkAt, portsAt, carriedAt, wordsWidth, stateBytes}
 use Rattle.layout.specs.Layout.{timeLeft, activationBy, activationOf, activationOctets, allocOf, allocOctets, allocsOf, allocsOctets, markOf, markNumber, markOctets, keyOf, keyOctets, responseNumber, responseBy, owedOf, owedOctets, queueOf, queueOctets, linkOf, linkOctets, portOf, portOctets, lengthOctets, portsOf, portsOctets, encoded, shown}
 use Rattle.layout.proofs.Refused.{part-length}
 use Rattle.layout.specs.KnownOctets.{activationKnown, markKnown, answerKnown, eachKnown, octetsKnown}
@@ -298,48 +298,48 @@ ports-like c e h =
     (grow waitingAt waitingWidth _ c (grow lengthsAt lengthsWidth _ c refl) ∙ take-all portsWidth c (omega arith))
     refl
 
-reserved-like : (x : List ℕ) → length x ≡ reservedWidth → Like (octets reservedWidth 0) x (eqb (getD x 0 0) 0)
+version-like : (x : List ℕ) → length x ≡ versionWidth → Like (octets versionWidth stateVersion) x (eqb (getD x versionAt 0) stateVersion)
 unfolding same
-reserved-like [] e = absurd (omega arith)
-reserved-like (n ∷ []) e = (refl, and-true (eqb 0 n) ∙ eqb-sym 0 n)
-reserved-like (n ∷ (m ∷ x)) e = absurd (omega arith)
+version-like [] e = absurd (omega arith)
+version-like (n ∷ []) e = (refl, and-true (eqb stateVersion n) ∙ eqb-sym stateVersion n)
+version-like (n ∷ (m ∷ x)) e = absurd (omega arith)
 
 -- ---- the state
 
-in-order : (a m w p r : Bool) → (((((a && true) && true) && (m && w)) && p) && r) ≡ (a && (m && (w && (p && r))))
-in-order true true true p r = refl
-in-order true true false p r = refl
-in-order true false w p r = refl
-in-order false m w p r = refl
+in-order : (v a m w p : Bool) → ((((((v && a) && true) && true) && (m && w)) && p) && true) ≡ (v && (a && (m && (w && p))))
+in-order true true true w p = and-true (w && p)
+in-order true true false w p = refl
+in-order true false m w p = refl
+in-order false a m w p = refl
 
 pub octets-known : (b : List ℕ) → stateBytes ≤ length b → Octets b → same (encoded (shown b)) (take stateBytes b) ≡ octetsKnown b
 unfolding encoded shown
 octets-known b r h =
     let l : List ℕ = part linkAt linkWidth b in
     let p : List ℕ = part portsAt portsWidth b in
+    let i : List ℕ = ((take versionWidth b ++ part activationAt activationWidth b) ++ part serialAt serialOctets b) ++ part registrationAt registrationOctets b in
+    let v : getD (take versionWidth b) versionAt 0 ≡ getD b versionAt 0 = getD-take versionWidth b 0 0 (lit< tt) in
     let k : getD (part keyAt keyWidth l) 0 0 ≡ getD b (linkAt + keyAt + heldAt) 0 = ap (λ (x : List ℕ). getD x 0 0) (part-part keyAt keyWidth linkAt linkWidth b (omega arith)) ∙ part-first (linkAt + keyAt) keyWidth b (lit< tt) in
     let w : part answersAt answersWidth (part queueAt queueWidth l) ≡ part (linkAt + queueAt + answersAt) answersWidth b = part-part answersAt answersWidth queueAt queueWidth l (omega arith) ∙ part-part (queueAt + answersAt) answersWidth linkAt linkWidth b (omega arith) in
     let m : part waitingAt waitingWidth p ≡ part (portsAt + waitingAt) waitingWidth b = part-part waitingAt waitingWidth portsAt portsWidth b (omega arith) in
-    let z : getD (part reservedAt reservedWidth b) 0 0 ≡ getD b reservedAt 0 = part-first reservedAt reservedWidth b (lit< tt) in
-    let last : part carriedAt wordsWidth b ++ part reservedAt reservedWidth b ≡ part carriedAt (wordsWidth + reservedWidth) b = ap (λ (x : List ℕ). part carriedAt wordsWidth b ++ take reservedWidth x) (sym (drop-drop wordsWidth carriedAt b)) ∙ sym (take-add wordsWidth reservedWidth (drop carriedAt b)) in
     let q =
-    joint _ (((take activationWidth b ++ part serialAt serialOctets b) ++ part registrationAt registrationOctets b) ++ l ++ p) _ (part carriedAt wordsWidth b ++ part reservedAt reservedWidth b) _ _
-    (joint _ (((take activationWidth b ++ part serialAt serialOctets b) ++ part registrationAt registrationOctets b) ++ l) _ p _ _
-    (joint _ ((take activationWidth b ++ part serialAt serialOctets b) ++ part registrationAt registrationOctets b) _ l _ _
-    (joint _ (take activationWidth b ++ part serialAt serialOctets b) _ (part registrationAt registrationOctets b) _ true
-    (joint _ (take activationWidth b) _ (part serialAt serialOctets b) _ true (activation-like (take activationWidth b) (part-length activationAt activationWidth b (omega arith)) (octets-part activationAt activationWidth b h)) (like (part serialAt serialOctets b) (part serialAt serialOctets b) refl))
+    joint _ ((i ++ l) ++ p) _ (part carriedAt wordsWidth b) _ true
+    (joint _ (i ++ l) _ p _ _
+    (joint _ i _ l _ _
+    (joint _ ((take versionWidth b ++ part activationAt activationWidth b) ++ part serialAt serialOctets b) _ (part registrationAt registrationOctets b) _ true
+    (joint _ (take versionWidth b ++ part activationAt activationWidth b) _ (part serialAt serialOctets b) _ true
+    (joint _ (take versionWidth b) _ (part activationAt activationWidth b) _ _ (version-like (take versionWidth b) (part-length versionAt versionWidth b (omega arith))) (activation-like (part activationAt activationWidth b) (part-length activationAt activationWidth b (omega arith)) (octets-part activationAt activationWidth b h)))
+    (like (part serialAt serialOctets b) (part serialAt serialOctets b) refl))
     (like (part registrationAt registrationOctets b) (part registrationAt registrationOctets b) refl))
     (link-like l (part-length linkAt linkWidth b (omega arith)) (octets-part linkAt linkWidth b h)))
     (ports-like p (part-length portsAt portsWidth b (omega arith)) (octets-part portsAt portsWidth b h)))
-    (joint _ (part carriedAt wordsWidth b) _ (part reservedAt reservedWidth b) true _ (number-like wordsWidth (part carriedAt wordsWidth b) (part-length carriedAt wordsWidth b (omega arith)) (octets-part carriedAt wordsWidth b h)) (reserved-like (part reservedAt reservedWidth b) (part-length reservedAt reservedWidth b (omega arith))))
+    (number-like wordsWidth (part carriedAt wordsWidth b) (part-length carriedAt wordsWidth b (omega arith)) (octets-part carriedAt wordsWidth b h))
     in
-    let cut =
-    ap (λ (x : List ℕ). (((take activationWidth b ++ part serialAt serialOctets b) ++ part registrationAt registrationOctets b) ++ l ++ p) ++ x) last
-    ∙ grow carriedAt (wordsWidth + reservedWidth) _ b (grow portsAt portsWidth _ b (grow linkAt linkWidth _ b (grow registrationAt registrationOctets _ b (grow serialAt serialOctets _ b refl)))) in
+    let cut = grow carriedAt wordsWidth _ b (grow portsAt portsWidth _ b (grow linkAt linkWidth _ b (grow registrationAt registrationOctets _ b (grow serialAt serialOctets _ b (grow activationAt activationWidth _ b refl))))) in
     ap (same (encoded (shown b))) (sym cut) ∙ q .1
-    ∙ in-order (activationKnown (take activationWidth b)) (markKnown (getD (part keyAt keyWidth l) 0 0)) (eachKnown answerKnown answerWidth mostOwed (part answersAt answersWidth (part queueAt queueWidth l))) (eachKnown markKnown markWidth slots (part waitingAt waitingWidth p)) (eqb (getD (part reservedAt reservedWidth b) 0 0) 0)
-    ∙ ap₂ (λ (x : ℕ) (y : List ℕ). activationKnown (take activationWidth b) && (markKnown x && (eachKnown answerKnown answerWidth mostOwed y && (eachKnown markKnown markWidth slots (part waitingAt waitingWidth p) && eqb (getD (part reservedAt reservedWidth b) 0 0) 0)))) k w
-    ∙ ap₂ (λ (y : List ℕ) (x : ℕ). activationKnown (take activationWidth b) && (markKnown (getD b (linkAt + keyAt + heldAt) 0) && (eachKnown answerKnown answerWidth mostOwed (part (linkAt + queueAt + answersAt) answersWidth b) && (eachKnown markKnown markWidth slots y && eqb x 0)))) m z
+    ∙ in-order (eqb (getD (take versionWidth b) versionAt 0) stateVersion) (activationKnown (part activationAt activationWidth b)) (markKnown (getD (part keyAt keyWidth l) 0 0)) (eachKnown answerKnown answerWidth mostOwed (part answersAt answersWidth (part queueAt queueWidth l))) (eachKnown markKnown markWidth slots (part waitingAt waitingWidth p))
+    ∙ ap₂ (λ (n x : ℕ). eqb n stateVersion && (activationKnown (part activationAt activationWidth b) && (markKnown x && (eachKnown answerKnown answerWidth mostOwed (part answersAt answersWidth (part queueAt queueWidth l)) && eachKnown markKnown markWidth slots (part waitingAt waitingWidth p))))) v k
+    ∙ ap₂ (λ (x y : List ℕ). eqb (getD b versionAt 0) stateVersion && (activationKnown (part activationAt activationWidth b) && (markKnown (getD b (linkAt + keyAt + heldAt) 0) && (eachKnown answerKnown answerWidth mostOwed x && eachKnown markKnown markWidth slots y)))) w m
 
 -- ---- tests of octets, one turn at a time
 

@@ -1,27 +1,29 @@
--- What is no state's octets, field by field: where octets are read, the activation, each mark and the reserved octet are those of
--- the state. So an unknown state, a time in a state that carries none, a mark other than 0 and 1 and a reserved octet other than
--- 0 are refused.
+-- What is no state's octets, field by field: where octets are read, the version, the activation and each mark are those of the
+-- state. So another version, an unknown state, a time in a state that carries none and a mark other than 0 and 1 are refused.
 -- Assumes nothing.
 use mathlib.Core.Path.{_≡_, refl, sym, ap, subst, _∙_}
 use mathlib.Core.List.{List, [], _∷_, _++_}
-use Prim.Native.Nat.{ℕ, _+_, _≤_, _<_}
+use mathlib.Core.Bool.{false}
+use Prim.Native.Nat.{ℕ, _+_, _≤_}
 use native.Mathlib.Omega.{arith}
-use lib.ListN.{length, take, drop, length-take, length-drop}
-use lib.Seq.{take-take, drop-at, drop-drop}
+use lib.ListN.{length, getD, take, drop, length-take, length-drop}
+use lib.Seq.{take-take}
+use borrow.Author.Tests.{ne-eqb, le-leb}
+use Rattle.integrity.specs.Integrity.{same}
 use Rattle.octets.specs.Octets.{value, octets}
-use Rattle.xgem.specs.Reads.{fields}
+use Rattle.xgem.specs.Reads.{fields, unreadable}
 use Rattle.station.specs.declared.Station.{Station}
 use Rattle.station.specs.Limits.{serialOctets, registrationOctets}
 use Rattle.link.specs.Limits.{addedAllocs, mostOwed, keyOctets}
 use Rattle.ports.specs.Limits.{slots, addedPorts}
 use Rattle.layout.specs.Rows.{part, each}
-use Rattle.layout.specs.Offsets.{idWidth, markWidth, activationWidth, allocIdsAt, allocIdsWidth, allocsAt, allocsWidth, keyOctetsAt, keyAt, keyWidth, answerWidth, answersAt, answersWidth, queueAt, queueWidth, linkAt, linkWidth}
-use Rattle.layout.specs.Offsets.{portIdsAt, portIdsWidth, lengthsAt, lengthWidth, lengthsWidth, waitingAt, waitingWidth, serialAt, registrationAt, portsAt, portsWidth, carriedAt, wordsWidth, reservedAt, stateBytes}
-use Rattle.layout.specs.Layout.{activationOctets, identityOctets, allocOf, portOf, markOf, owedOf, markOctets, portOctets, lengthOctets, allocsOf, keyOf, queueOf, linkOf, linkOctets, portsOf, portsOctets, carriedOctets, encoded, shown, decoded}
+use Rattle.layout.specs.Offsets.{versionAt, versionWidth, stateVersion, idWidth, markWidth, activationAt, activationWidth, allocIdsAt, allocIdsWidth, allocsAt, allocsWidth, keyOctetsAt, keyAt, keyWidth, answerWidth, answersAt, answersWidth, queueAt, queueWidth, linkAt, linkWidth}
+use Rattle.layout.specs.Offsets.{portIdsAt, portIdsWidth, lengthsAt, lengthWidth, lengthsWidth, waitingAt, waitingWidth, serialAt, registrationAt, portsAt, portsWidth, carriedAt, wordsWidth, stateBytes}
+use Rattle.layout.specs.Layout.{activationOctets, identityOctets, allocOf, portOf, markOf, owedOf, allocsOf, keyOf, queueOf, linkOf, linkOctets, portsOf, portsOctets, encoded, shown, readOf, decoded}
 use Rattle.layout.specs.Typed.{Sized}
 use Rattle.layout.proofs.Laws.{many-length}
 use Rattle.layout.proofs.Fields.{front, back}
-use Rattle.layout.proofs.RoundTrips.{i4, i5, a2, encoded-length, read-written, room-read, read-shown}
+use Rattle.layout.proofs.RoundTrips.{i4, i5, a2, read-written, room-read, read-shown}
 
 pub part-length : (o w : ℕ) (b : List ℕ) → o + w ≤ length b → length (part o w b) ≡ w
 part-length o w b h = simp (length-take, length-drop) (omega arith)
@@ -46,23 +48,34 @@ module _ (b : List ℕ) (s : Station) (h : decoded b ≡ fields s) where
   sized : Sized s
   sized = subst Sized (read-shown b s h) (shown-sized b (room-read b s h))
 
-  pub activation-form : take activationWidth b ≡ activationOctets (s .activation)
+  pub version-form : take versionWidth b ≡ stateVersion ∷ []
   unfolding encoded
-  activation-form = sym (take-take activationWidth stateBytes b (omega arith)) ∙ ap (take activationWidth) (sym (read-written b s h))
+  version-form = sym (take-take versionWidth stateBytes b (omega arith)) ∙ ap (take versionWidth) (sym (read-written b s h))
 
-  last-three : drop carriedAt (take stateBytes b) ≡ carriedOctets (s .carried)
+  pub activation-form : part activationAt activationWidth (take stateBytes b) ≡ activationOctets (s .activation)
   unfolding encoded
-  last-three =
-      ap (drop carriedAt) (sym (read-written b s h))
-      ∙ drop-at ((identityOctets (s .activation) (s .serial) (s .registration) ++ linkOctets (s .link)) ++ portsOctets (s .ports)) (carriedOctets (s .carried)) carriedAt (i5 s sized)
-
-  pub reserved-zero : drop reservedAt (take stateBytes b) ≡ 0 ∷ []
-  reserved-zero = sym (drop-drop wordsWidth carriedAt (take stateBytes b)) ∙ ap (drop wordsWidth) last-three
+  activation-form = ap (part activationAt activationWidth) (sym (read-written b s h))
 
   pub ports-form : part portsAt portsWidth (take stateBytes b) ≡ portsOctets (s .ports)
   unfolding encoded
   ports-form =
       let i : List ℕ = identityOctets (s .activation) (s .serial) (s .registration) in
       ap (part portsAt portsWidth) (sym (read-written b s h))
-      ∙ front ((i ++ linkOctets (s .link)) ++ portsOctets (s .ports)) (carriedOctets (s .carried)) portsAt portsWidth (omega (arith, i5 s sized))
+      ∙ front ((i ++ linkOctets (s .link)) ++ portsOctets (s .ports)) (octets wordsWidth (s .carried)) portsAt portsWidth (omega (arith, i5 s sized))
       ∙ back (i ++ linkOctets (s .link)) (portsOctets (s .ports)) portsAt portsWidth (i4 s sized) (a2 s sized)
+
+-- ---- a state of another version, whatever else stands in it
+
+first-of-two : (n m : ℕ) (x y : List ℕ) → (m ≡ n → ⊥) → same (n ∷ x) (m ∷ y) ≡ false
+unfolding same
+first-of-two n m x y h = rw (ne-eqb n m (λ e. h (sym e)))
+
+not-its-version : (s : Station) (b : List ℕ) → (getD b versionAt 0 ≡ stateVersion → ⊥) → same (encoded s) (take stateBytes b) ≡ false
+unfolding encoded same
+not-its-version s [] h = refl
+not-its-version s (n ∷ b) h = first-of-two stateVersion n (drop 1 (encoded s)) (take (carriedAt + 1) b) h
+
+pub another-version-unreadable
+    : (b : List ℕ) → stateBytes ≤ length b → (getD b versionAt 0 ≡ stateVersion → ⊥) → decoded b ≡ unreadable
+unfolding readOf
+another-version-unreadable b r h = rw (le-leb stateBytes (length b) r, not-its-version (shown b) b h)

@@ -1,39 +1,36 @@
 -- Each state has exactly one byte form: octets are read as a state exactly where they are that state's octets.
 -- Assumes nothing.
 use mathlib.Core.Path.{_≡_, refl, sym, ap, ap₂, _∙_}
-use mathlib.Core.Bool.{Bool, true, false, cond}
-use mathlib.Core.List.{List, [], _∷_, _++_}
-use Prim.Native.Nat.{ℕ, _+_, _≤_, _<_}
+use mathlib.Core.Bool.{Bool, true, false}
+use mathlib.Core.List.{List, _++_}
+use Prim.Native.Nat.{ℕ, _+_, _≤_}
 use native.Mathlib.Omega.{arith}
 use lib.Dec.{leb}
-use lib.ListN.{length, take, drop, length-append, take-append-drop, replicate}
-use lib.Seq.{take-at, drop-at, length-take-le}
-use borrow.Author.Tests.{le-leb, leb-true, leb-false}
+use lib.ListN.{length, take, drop, length-append, take-append-drop}
+use lib.Seq.{take-at, length-take-le}
+use borrow.Author.Tests.{le-leb, leb-true}
 use Rattle.octets.specs.Octets.{value, octets}
 use Rattle.xgem.specs.Reads.{Found, fields, unreadable, short}
-use Rattle.xgem.specs.Writes.{put}
 use Rattle.octets.proofs.Numbers.{value-octets}
 use Rattle.integrity.specs.Integrity.{same}
 use Rattle.integrity.proofs.Same.{same-refl, same-equal}
 use Rattle.station.specs.declared.Station.{Station}
-use Rattle.station.specs.Station.{powerOn}
 use Rattle.layout.specs.declared.StateRead.{StateRead}
-use Rattle.layout.specs.declared.Contents.the-variants.{Held, Unreadable, Short}
 use Rattle.station.specs.Limits.{serialOctets, registrationOctets}
 use Rattle.layout.specs.Rows.{part}
-use Rattle.layout.specs.Offsets.{activationAt, activationWidth, serialAt, registrationAt, linkAt, linkWidth, portsAt, portsWidth, carriedAt, wordsWidth, reservedWidth, stateBytes}
-use Rattle.layout.specs.Layout.{activationOctets, activationOf, identityOctets, linkOctets, linkOf, portsOctets, portsOf, carriedOctets, encoded, shown, readOf, found, decoded, stored}
+use Rattle.layout.specs.Offsets.{versionWidth, stateVersion, activationAt, activationWidth, serialAt, registrationAt, linkAt, linkWidth, portsAt, portsWidth, carriedAt, wordsWidth, stateBytes}
+use Rattle.layout.specs.Layout.{activationOctets, activationOf, identityOctets, linkOctets, linkOf, portsOctets, portsOf, encoded, shown, readOf, found, decoded, stored}
 use Rattle.layout.specs.Typed.{Sized, Typed}
 use Rattle.layout.proofs.Laws.{joined}
 use Rattle.layout.proofs.Answers.{read-held}
 use Rattle.layout.proofs.Fields.{front, back, activation-back, link-length, link-back, ports-length, ports-back}
 
 module _ (s : Station) (t : Sized s) where
-  i2 : length (activationOctets (s .activation) ++ s .serial) ≡ registrationAt
-  i2 = joined (activationOctets (s .activation)) (s .serial) serialAt serialOctets refl (t .serial)
+  i2 : length ((octets versionWidth stateVersion ++ activationOctets (s .activation)) ++ s .serial) ≡ registrationAt
+  i2 = joined (octets versionWidth stateVersion ++ activationOctets (s .activation)) (s .serial) serialAt serialOctets refl (t .serial)
 
   i3 : length (identityOctets (s .activation) (s .serial) (s .registration)) ≡ linkAt
-  i3 = joined (activationOctets (s .activation) ++ s .serial) (s .registration) registrationAt registrationOctets i2 (t .registration)
+  i3 = joined ((octets versionWidth stateVersion ++ activationOctets (s .activation)) ++ s .serial) (s .registration) registrationAt registrationOctets i2 (t .registration)
 
   a1 : length (linkOctets (s .link)) ≡ linkWidth
   a1 = link-length (s .link) (t .allocs) (t .key) (t .answers)
@@ -49,7 +46,7 @@ module _ (s : Station) (t : Sized s) where
 
   pub encoded-length : length (encoded s) ≡ stateBytes
   unfolding encoded
-  encoded-length = joined ((identityOctets (s .activation) (s .serial) (s .registration) ++ linkOctets (s .link)) ++ portsOctets (s .ports)) (carriedOctets (s .carried)) carriedAt (wordsWidth + reservedWidth) i5 refl
+  encoded-length = joined ((identityOctets (s .activation) (s .serial) (s .registration) ++ linkOctets (s .link)) ++ portsOctets (s .ports)) (octets wordsWidth (s .carried)) carriedAt wordsWidth i5 refl
 
   module _ (rest : List ℕ) where
     pub in-state : (o w : ℕ) → o + w ≤ stateBytes → part o w (encoded s ++ rest) ≡ part o w (encoded s)
@@ -61,17 +58,18 @@ module _ (s : Station) (t : Typed s) (rest : List ℕ) where
   unfolding shown encoded
   shown-back =
       let a : List ℕ = activationOctets (s .activation) in
+      let v : List ℕ = octets versionWidth stateVersion ++ a in
       let i : List ℕ = identityOctets (s .activation) (s .serial) (s .registration) in
       let l : List ℕ = linkOctets (s .link) in
       let p : List ℕ = portsOctets (s .ports) in
-      let c : List ℕ = carriedOctets (s .carried) in
+      let c : List ℕ = octets wordsWidth (s .carried) in
       let inner : (o w : ℕ) → o + w ≤ linkAt → part o w (encoded s ++ rest) ≡ part o w i = λ o w h. in-state s (t .sized) rest o w (omega arith) ∙ front ((i ++ l) ++ p) c o w (omega (arith, (i5 s (t .sized)))) ∙ front (i ++ l) p o w (omega (arith, (i4 s (t .sized)))) ∙ front i l o w (omega (arith, (i3 s (t .sized)))) in
-      let n1 : part activationAt activationWidth (encoded s ++ rest) ≡ a = inner activationAt activationWidth (omega arith) ∙ front (a ++ s .serial) (s .registration) activationAt activationWidth (omega (arith, (i2 s (t .sized)))) ∙ refl in
-      let n2 : part serialAt serialOctets (encoded s ++ rest) ≡ s .serial = inner serialAt serialOctets (omega arith) ∙ front (a ++ s .serial) (s .registration) serialAt serialOctets (omega (arith, (i2 s (t .sized)))) ∙ back a (s .serial) serialAt serialOctets refl (t .sized .serial) in
-      let n3 : part registrationAt registrationOctets (encoded s ++ rest) ≡ s .registration = inner registrationAt registrationOctets (omega arith) ∙ back (a ++ s .serial) (s .registration) registrationAt registrationOctets (i2 s (t .sized)) (t .sized .registration) in
+      let n1 : part activationAt activationWidth (encoded s ++ rest) ≡ a = inner activationAt activationWidth (omega arith) ∙ front (v ++ s .serial) (s .registration) activationAt activationWidth (omega (arith, (i2 s (t .sized)))) ∙ refl in
+      let n2 : part serialAt serialOctets (encoded s ++ rest) ≡ s .serial = inner serialAt serialOctets (omega arith) ∙ front (v ++ s .serial) (s .registration) serialAt serialOctets (omega (arith, (i2 s (t .sized)))) ∙ back v (s .serial) serialAt serialOctets refl (t .sized .serial) in
+      let n3 : part registrationAt registrationOctets (encoded s ++ rest) ≡ s .registration = inner registrationAt registrationOctets (omega arith) ∙ back (v ++ s .serial) (s .registration) registrationAt registrationOctets (i2 s (t .sized)) (t .sized .registration) in
       let n4 : part linkAt linkWidth (encoded s ++ rest) ≡ l = in-state s (t .sized) rest linkAt linkWidth (omega arith) ∙ front ((i ++ l) ++ p) c linkAt linkWidth (omega (arith, (i5 s (t .sized)))) ∙ front (i ++ l) p linkAt linkWidth (omega (arith, (i4 s (t .sized)))) ∙ back i l linkAt linkWidth (i3 s (t .sized)) (a1 s (t .sized)) in
       let n5 : part portsAt portsWidth (encoded s ++ rest) ≡ p = in-state s (t .sized) rest portsAt portsWidth (omega arith) ∙ front ((i ++ l) ++ p) c portsAt portsWidth (omega (arith, (i5 s (t .sized)))) ∙ back (i ++ l) p portsAt portsWidth (i4 s (t .sized)) (a2 s (t .sized)) in
-      let n6 : part carriedAt wordsWidth (encoded s ++ rest) ≡ octets wordsWidth (s .carried) = in-state s (t .sized) rest carriedAt wordsWidth (omega arith) ∙ ap (take wordsWidth) (drop-at ((i ++ l) ++ p) c carriedAt (i5 s (t .sized))) in
+      let n6 : part carriedAt wordsWidth (encoded s ++ rest) ≡ octets wordsWidth (s .carried) = in-state s (t .sized) rest carriedAt wordsWidth (omega arith) ∙ back ((i ++ l) ++ p) c carriedAt wordsWidth (i5 s (t .sized)) refl in
       let f1 = ap activationOf n1 ∙ activation-back (s .activation) (t .left) in
       let f4 = ap linkOf n4 ∙ link-back (s .link) (t .sized .allocs) (t .sized .key) (t .sized .answers) (t .onu) (t .alloc-ids) (t .alloc-count) (t .delay) (t .owed-count) in
       let f5 = ap portsOf n5 ∙ ports-back (s .ports) (t .sized .ports) (t .sized .lengths) (t .sized .waiting) (t .port-ids) (t .partials) in

@@ -10,7 +10,7 @@ use Rattle.station.specs.States.{stateNumber}
 use Rattle.ports.specs.Limits.{slots}
 use Rattle.link.specs.Limits.{mostOwed}
 use Rattle.layout.specs.Rows.{part}
-use Rattle.layout.specs.Offsets.{numberAt, numberWidth, timeAt, timeWidth, activationAt, activationWidth, linkAt, keyAt, heldAt, queueAt, answersAt, answerWidth, answersWidth, portsAt, waitingAt, markWidth, waitingWidth, reservedAt}
+use Rattle.layout.specs.Offsets.{numberAt, numberWidth, timeAt, timeWidth, versionAt, stateVersion, activationAt, activationWidth, linkAt, keyAt, heldAt, queueAt, answersAt, answerWidth, answersWidth, portsAt, waitingAt, markWidth, waitingWidth}
 use Rattle.layout.specs.Layout.{activationOf, timeLeft}
 
 -- the number is the state's, and the time is 0 where the state carries none
@@ -30,10 +30,11 @@ abbrev pub eachKnown : (ℕ → Bool) → ℕ → ℕ → List ℕ → Bool
 eachKnown f width zero c = true
 eachKnown f width (suc n) c = f (getD c 0 0) && eachKnown f width n (drop width c)
 
--- the activation, the mark of a held key, the answers, the marks of ports that wait, and the reserved octet
+-- the version, the activation, the mark of a held key, the answers, and the marks of ports that wait
 abbrev pub octetsKnown : List ℕ → Bool
 octetsKnown b =
-    activationKnown (part activationAt activationWidth b)
+    eqb (getD b versionAt 0) stateVersion
+    && (activationKnown (part activationAt activationWidth b)
     && (markKnown (getD b (linkAt + keyAt + heldAt) 0)
     && (eachKnown answerKnown answerWidth mostOwed (part (linkAt + queueAt + answersAt) answersWidth b)
-    && (eachKnown markKnown markWidth slots (part (portsAt + waitingAt) waitingWidth b) && eqb (getD b reservedAt 0) 0)))
+    && eachKnown markKnown markWidth slots (part (portsAt + waitingAt) waitingWidth b))))

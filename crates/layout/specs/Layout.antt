@@ -1,11 +1,10 @@
 -- A station's state as octets at fixed offsets, numbers with their most significant octet first.
 -- Assumes nothing.
 use Prim.Native.Nat.{ℕ, _+_}
-use mathlib.Core.Path.{_≡_}
 use mathlib.Core.List.{List, [], _∷_, _++_}
-use mathlib.Core.Bool.{Bool, true, false, cond}
+use mathlib.Core.Bool.{Bool, cond}
 use lib.Dec.{eqb, leb}
-use lib.ListN.{length, take, drop, replicate}
+use lib.ListN.{length, take, replicate}
 use Rattle.ids.specs.declared.AllocId.{AllocId}
 use Rattle.ids.specs.declared.PortId.{PortId}
 use Rattle.octets.specs.Octets.{value, octets}
@@ -38,7 +37,7 @@ use Rattle.layout.specs.Rows.{part, each, many}
 use Rattle.layout.specs.Offsets.{idWidth, markWidth, countWidth, numberAt, numberWidth, timeAt, timeWidth, activationWidth, allocCountAt, allocIdsAt, allocIdsWidth, allocsWidth, heldAt, keyOctetsAt, keyWidth}
 use Rattle.layout.specs.Offsets.{responseAt, responseWidth, seqNoAt, seqNoWidth, answerWidth, owedCountAt, answersAt, answersWidth, queueWidth, onuAt, allocsAt, delayAt, delayWidth, keyAt, queueAt, linkWidth}
 use Rattle.layout.specs.Offsets.{portIdsAt, portIdsWidth, lengthsAt, lengthWidth, lengthsWidth, waitingAt, waitingWidth, portsWidth}
-use Rattle.layout.specs.Offsets.{activationAt, serialAt, registrationAt, linkAt, portsAt, carriedAt, wordsWidth, reservedWidth}
+use Rattle.layout.specs.Offsets.{versionWidth, stateVersion, activationAt, serialAt, registrationAt, linkAt, portsAt, carriedAt, wordsWidth}
 pub use Rattle.layout.specs.Offsets.{stateBytes}
 
 -- ---- a state as octets
@@ -94,17 +93,14 @@ linkOctets l = (((octets idWidth (l .onu .0) ++ allocsOctets (l .allocs)) ++ oct
 abbrev pub portsOctets : Ports → List ℕ
 portsOctets p = (each portOctets (p .ids) ++ each lengthOctets (p .lengths)) ++ each markOctets (p .waiting)
 
+-- behind the version, with which each state begins
 abbrev pub identityOctets : Activation → List ℕ → List ℕ → List ℕ
-identityOctets a serial registration = (activationOctets a ++ serial) ++ registration
-
--- with the reserved octet, which is 0
-abbrev pub carriedOctets : ℕ → List ℕ
-carriedOctets words = octets wordsWidth words ++ octets reservedWidth 0
+identityOctets a serial registration = ((octets versionWidth stateVersion ++ activationOctets a) ++ serial) ++ registration
 
 unfoldable pub encoded : Station → List ℕ
 encoded s =
     ((identityOctets (s .activation) (s .serial) (s .registration) ++ linkOctets (s .link)) ++ portsOctets (s .ports))
-    ++ carriedOctets (s .carried)
+    ++ octets wordsWidth (s .carried)
 
 -- ---- the state that octets show
 
@@ -174,9 +170,9 @@ shown b =
       carried = value (part carriedAt wordsWidth b);
     }
 
--- ---- a state has exactly one byte form: octets are read as the state that they show only where they are that state's octets. So an
--- unknown number of a state or an answer, a mark other than 0 and 1, a time in a state that carries none, and a reserved
--- octet other than 0 are unreadable
+-- ---- a state has exactly one byte form: octets are read as the state that they show only where they are that state's octets. So
+-- another version, an unknown number of a state or an answer, a mark other than 0 and 1, and a time in a state that carries
+-- none are unreadable
 unfoldable pub readOf : List ℕ → StateRead
 readOf b =
     cond (leb stateBytes (length b))

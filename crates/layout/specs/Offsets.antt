@@ -141,10 +141,21 @@ waitingWidth = markWidth * slots
 abbrev pub portsWidth : ℕ
 portsWidth = waitingAt + waitingWidth
 
--- ---- the state: activation, serial number, Registration ID, link, ports, carried words, and an octet that is reserved
+-- ---- the state: version of this form, activation, serial number, Registration ID, link, ports, carried words
+
+abbrev pub versionAt : ℕ
+versionAt = 0
+
+abbrev pub versionWidth : ℕ
+versionWidth = 1
+
+-- The first library's form has no version: its first octet is the state's number, at most 7. So versions count from 8, and no form
+-- is taken for another.
+abbrev pub stateVersion : ℕ
+stateVersion = 8
 
 abbrev pub activationAt : ℕ
-activationAt = 0
+activationAt = versionAt + versionWidth
 
 abbrev pub serialAt : ℕ
 serialAt = activationAt + activationWidth
@@ -164,11 +175,5 @@ carriedAt = portsAt + portsWidth
 abbrev pub wordsWidth : ℕ
 wordsWidth = 2
 
-abbrev pub reservedAt : ℕ
-reservedAt = carriedAt + wordsWidth
-
-abbrev pub reservedWidth : ℕ
-reservedWidth = 1
-
 abbrev pub stateBytes : ℕ
-stateBytes = reservedAt + reservedWidth
+stateBytes = carriedAt + wordsWidth

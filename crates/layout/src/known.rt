@@ -1,5 +1,5 @@
-// The octets that can be no state's: an unknown number of a state or an answer, a mark other than 0 and 1, a time in a state that carries
-// none, and a reserved octet other than 0. Every other octet belongs to a field that has all its numbers.
+// The octets that can be no state's: another version, an unknown number of a state or an answer, a mark other than 0 and 1, and a time in
+// a state that carries none. Every other octet belongs to a field that has all its numbers.
 ghost use mathlib.Core.Path.{_≡_};
 ghost use Prim.Native.Nat.{_≤_};
 ghost use lib.ListN.{length, take};
@@ -78,18 +78,19 @@ pub(crate) fn octets_known(b: &[u8]) -> bool
     requires { ⌜ stateBytes ≤ length (now b) ⌝ }
     ensures { λ r. ⌜ r ≡ same (encoded (shown (now (b .entry)))) (take stateBytes (now (b .entry))) ⌝ }
 {
-    let held = b[HELD_AT];
+    let version = b[offsets::VERSION_AT];
+    if version != offsets::STATE_VERSION {
+        return false;
+    }
     if !activation_known(&b[offsets::ACTIVATION_AT..offsets::SERIAL_AT]) {
         return false;
     }
+    let held = b[HELD_AT];
     if !mark_known(held) {
         return false;
     }
     if !answers_known(&b[ANSWERS_AT..offsets::PORTS_AT]) {
         return false;
     }
-    if !marks_known(&b[WAITING_AT..offsets::CARRIED_AT]) {
-        return false;
-    }
-    b[offsets::RESERVED_AT] == 0
+    marks_known(&b[WAITING_AT..offsets::CARRIED_AT])
 }

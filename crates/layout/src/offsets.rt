@@ -88,8 +88,16 @@ const WAITING_WIDTH: usize = MARK_WIDTH * ports::SLOTS;
 
 pub(crate) const PORTS_WIDTH: usize = WAITING_AT + WAITING_WIDTH;
 
-// The state: activation, serial number, Registration ID, link, ports, carried words, and an octet that is reserved.
-pub(crate) const ACTIVATION_AT: usize = 0;
+// The state: version of this form, activation, serial number, Registration ID, link, ports, carried words.
+pub(crate) const VERSION_AT: usize = 0;
+
+const VERSION_WIDTH: usize = 1;
+
+// The first library's form has no version: its first octet is the state's number, at most 7. So versions count from 8, and no form
+// is taken for another.
+pub(crate) const STATE_VERSION: u8 = 8;
+
+pub(crate) const ACTIVATION_AT: usize = VERSION_AT + VERSION_WIDTH;
 
 pub(crate) const SERIAL_AT: usize = ACTIVATION_AT + ACTIVATION_WIDTH;
 
@@ -101,10 +109,6 @@ pub(crate) const PORTS_AT: usize = LINK_AT + LINK_WIDTH;
 
 pub(crate) const CARRIED_AT: usize = PORTS_AT + PORTS_WIDTH;
 
-pub(crate) const WORDS_WIDTH: usize = 2;
+const WORDS_WIDTH: usize = 2;
 
-pub(crate) const RESERVED_AT: usize = CARRIED_AT + WORDS_WIDTH;
-
-const RESERVED_WIDTH: usize = 1;
-
-pub(crate) const STATE_BYTES: usize = RESERVED_AT + RESERVED_WIDTH;
+pub(crate) const STATE_BYTES: usize = CARRIED_AT + WORDS_WIDTH;

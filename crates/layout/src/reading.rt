@@ -279,7 +279,7 @@ pub(crate) fn station_in(b: &[u8]) -> Station
     let registration = octets36(&b[offsets::REGISTRATION_AT..offsets::LINK_AT]);
     let link = link_in(&b[offsets::LINK_AT..offsets::PORTS_AT]);
     let ports = ports_in(&b[offsets::PORTS_AT..offsets::CARRIED_AT]);
-    let carried = numbers::number16(&b[offsets::CARRIED_AT..offsets::RESERVED_AT]);
+    let carried = numbers::number16(&b[offsets::CARRIED_AT..offsets::STATE_BYTES]);
     Station {
         activation: activation,
         serial: serial,

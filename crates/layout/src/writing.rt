@@ -1,14 +1,14 @@
 // A state's octets, field after field.
 ghost use mathlib.Core.Path.{_≡_};
-ghost use Prim.Native.Nat.{_+_, _≤_, _<_};
+ghost use Prim.Native.Nat.{_≤_, _<_};
 ghost use lib.ListN.{length};
 ghost use Rattle.xgem.specs.Writes.{put};
 ghost use Rattle.station.specs.Limits.{serialOctets, registrationOctets};
 ghost use Rattle.link.specs.Limits as limits;
 ghost use Rattle.layout.specs.Rows.{each};
-ghost use Rattle.layout.specs.Offsets.{activationWidth, allocIdsWidth, allocsWidth, keyWidth, answersWidth, queueWidth, linkWidth, portIdsWidth, lengthsWidth, waitingWidth, portsWidth, linkAt, wordsWidth, reservedWidth, stateBytes};
+ghost use Rattle.layout.specs.Offsets.{activationWidth, allocIdsWidth, allocsWidth, keyWidth, answersWidth, queueWidth, linkWidth, portIdsWidth, lengthsWidth, waitingWidth, portsWidth, linkAt, stateBytes};
 ghost use Rattle.layout.specs.Layout.{timeLeft, responseNumber, activationOctets, allocOctets, portOctets, lengthOctets, markNumber, markOctets, owedOctets};
-ghost use Rattle.layout.specs.Layout.{allocsOctets, keyOctets, queueOctets, linkOctets, portsOctets, identityOctets, carriedOctets, encoded};
+ghost use Rattle.layout.specs.Layout.{allocsOctets, keyOctets, queueOctets, linkOctets, portsOctets, identityOctets, encoded};
 use super::numbers;
 use super::offsets;
 use ids::AllocId;
@@ -210,17 +210,10 @@ fn put_identity(a: Activation, serial: [u8; 8], registration: [u8; 36], out: &mu
     requires { ⌜ linkAt ≤ length (now out) ⌝ }
     ensures { λ _. ⌜ (now (out .exit) ≡ put (now (out .entry)) (identityOctets a serial registration)) × (length (identityOctets a serial registration) ≡ linkAt) ⌝ }
 {
-    put_activation(a, out);
+    numbers::put8(offsets::STATE_VERSION, out);
+    put_activation(a, &mut out[offsets::ACTIVATION_AT..]);
     put_octets8(serial, &mut out[offsets::SERIAL_AT..]);
     put_octets36(registration, &mut out[offsets::REGISTRATION_AT..]);
-}
-
-fn put_carried(words: u16, out: &mut [u8])
-    requires { ⌜ wordsWidth + reservedWidth ≤ length (now out) ⌝ }
-    ensures { λ _. ⌜ now (out .exit) ≡ put (now (out .entry)) (carriedOctets words) ⌝ }
-{
-    numbers::put16(words, out);
-    numbers::put8(0, &mut out[offsets::WORDS_WIDTH..]);
 }
 
 pub(crate) fn put_station(s: Station, out: &mut [u8])
@@ -235,5 +228,5 @@ pub(crate) fn put_station(s: Station, out: &mut [u8])
     put_identity(activation, serial, registration, out);
     put_link(link, &mut out[offsets::LINK_AT..]);
     put_ports(ports, &mut out[offsets::PORTS_AT..]);
-    put_carried(s.carried, &mut out[offsets::CARRIED_AT..]);
+    numbers::put16(s.carried, &mut out[offsets::CARRIED_AT..]);
 }

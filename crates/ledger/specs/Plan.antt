@@ -16,6 +16,7 @@ use Rattle.entries.specs.Limits.{lastStart}
 use Rattle.entries.specs.Standings.{startUnfit, noRoom, continues, ours, Mine}
 use Rattle.station.specs.States.{silent}
 use Rattle.ledger.specs.Events.{Event, stationOf}
+use Rattle.ledger.specs.Entries.{Entry}
 use Rattle.ledger.specs.Ledger.{ledger, InLedger}
 
 -- what the plan looks at in a station
@@ -35,15 +36,19 @@ pub record Discovery (a : Allocation) : Type 0 where
   pub message : a .ploamu ≡ true
   pub size : a .grant ≡ 0
 
--- which entries are ours in a frame that arrives after the history h
-pub record OursAfter (first : Station) (h : List Event) : Type 0 where
-  pub in-o23 : ownAt first h .activation ≡ SerialNumber → (a : Allocation) → (ours (ownAt first h) a ≡ true) ↔ Discovery a
+-- which entries are ours, by what the plan looks at in a station, in the words of a ledger
+pub record Ours (entries : List Entry) (own : Own) : Type 0 where
+  pub in-o23 : own .activation ≡ SerialNumber → (a : Allocation) → (ours own a ≡ true) ↔ Discovery a
   -- "the head with PLOAMu"
   pub in-o4
-      : (left : ℕ) → ownAt first h .activation ≡ Ranging left → (a : Allocation)
-      → (ours (ownAt first h) a ≡ true) ↔ (Listed first h a × ((continues a || a .ploamu) ≡ true))
-  pub in-o5 : ownAt first h .activation ≡ Operation → (a : Allocation) → (ours (ownAt first h) a ≡ true) ↔ Listed first h a
-  pub elsewhere : silent (ownAt first h .activation) ≡ true → (a : Allocation) → ours (ownAt first h) a ≡ false
+      : (left : ℕ) → own .activation ≡ Ranging left → (a : Allocation)
+      → (ours own a ≡ true) ↔ (InLedger entries (a .alloc .0) × ((continues a || a .ploamu) ≡ true))
+  pub in-o5 : own .activation ≡ Operation → (a : Allocation) → (ours own a ≡ true) ↔ InLedger entries (a .alloc .0)
+  pub elsewhere : silent (own .activation) ≡ true → (a : Allocation) → ours own a ≡ false
+
+-- in a frame that arrives after the history h
+abbrev pub OursAfter : Station → List Event → Type 0
+OursAfter first h = Ours (ledger first h) (ownAt first h)
 
 -- what an entry that stands as ours says of its number
 pub record NumberOf (first : Station) (h : List Event) : Type 0 where

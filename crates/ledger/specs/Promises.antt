@@ -17,14 +17,17 @@ use Rattle.link.specs.Link.{heldAllocs, allocPlace}
 use Rattle.validity.specs.Ranges.{proper}
 use Rattle.ids.specs.Places.{isHeld}
 use Rattle.ledger.specs.Events.{Event, considered, ended, unread, lost, stationOf}
-use Rattle.ledger.specs.Entries.{gave, neither, takesBack}
+use Rattle.ledger.specs.Entries.{Entry, gave, neither, takesBack}
 use Rattle.ledger.specs.Messages.{byMessage}
 use Rattle.ledger.specs.Times.{o6, countsTo1, countsTo2, counted}
 use Rattle.ledger.specs.Ledger.{entryOf, ledger, InLedger, holds}
 
--- the ledger is exactly the ONU-ID and the Alloc-IDs held
+-- a ledger is exactly the ONU-ID and the Alloc-IDs that a station holds
+abbrev pub Holds : List Entry → Station → Type 0
+Holds entries s = (n : ℕ) → InLedger entries n ↔ (holds s n ≡ true)
+
 abbrev pub Exact : Station → List Event → Type 0
-Exact first h = (n : ℕ) → InLedger (ledger first h) n ↔ (holds (stationOf first h) n ≡ true)
+Exact first h = Holds (ledger first h) (stationOf first h)
 
 -- none of the events since took n back
 abbrev pub Untaken : Station → ℕ → List Event → List Event → Type 0

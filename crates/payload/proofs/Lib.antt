@@ -9,3 +9,4 @@ pub mod Isolation
 pub mod Counts
 pub mod Reassembly
 pub mod Determined
+pub mod Appends

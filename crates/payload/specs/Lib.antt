@@ -5,3 +5,4 @@ pub mod Bounds
 pub mod Inside
 pub mod Alike
 pub mod Deliveries
+pub mod Appends

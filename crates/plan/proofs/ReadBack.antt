@@ -122,12 +122,13 @@ read-back (s ∷ l) =
     (head-sends (s .head) (recordsOf (moreNumbers (s .head) (s .more) ++ numbers l)) (grantsOf (s .more)) (joining-more (s .head) (s .more) (numbers l) (next-opens l)))
     (sendings-more (s .head) (s .more) (numbers l) ∙ read-back l))
 
-front : (l : List Series) (plan : List ℕ) → take (4 * records l) (written l plan) ≡ numbers l
-front l plan = take-at (numbers l) (drop (length (numbers l)) plan) (4 * records l) (length-numbers l)
+-- the records counted of a plan are those of its series, number by number
+pub records-written : (l : List Series) (plan : List ℕ) → take (4 * records l) (written l plan) ≡ numbers l
+records-written l plan = take-at (numbers l) (drop (length (numbers l)) plan) (4 * records l) (length-numbers l)
 
 -- what the laser sends by the records counted of a plan, whatever stood in it, is each series, in order
 pub laser-obeys : (l : List Series) (plan : List ℕ) → laser (records l) (written l plan) ≡ burstsOf l
-laser-obeys l plan = ap (λ (ns : List ℕ). sendings (recordsOf ns)) (front l plan) ∙ read-back l
+laser-obeys l plan = ap (λ (ns : List ℕ). sendings (recordsOf ns)) (records-written l plan) ∙ read-back l
 
 -- past the records the plan keeps its content
 pub plan-kept : (l : List Series) (plan : List ℕ) → drop (4 * records l) (written l plan) ≡ drop (4 * records l) plan

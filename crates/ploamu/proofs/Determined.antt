@@ -8,10 +8,11 @@ use lib.ListN.{length}
 use borrow.Author.Tests.{lt-leb}
 use Rattle.ploam.specs.Layout.{messageOctets}
 use Rattle.ploamu.specs.Upstream.{upstreamAddress, heard}
-use Rattle.ploamu.specs.Writing.{numberOf, MessageLeft, written, Leaves}
+use Rattle.ploamu.specs.Writing.{MessageLeft, written, Leaves}
 use Rattle.ploamu.specs.declared.Heard.{Heard}
 use Rattle.ploamu.specs.declared.UpstreamMessage.{UpstreamMessage}
-use Rattle.ploamu.specs.declared.Written.the-variants.{Unfit}
+use Rattle.answers.specs.declared.Answer.the-variants.{NotWritten}
+use Rattle.answers.specs.Answers.{answerNumber}
 
 pub heard-determined : (m : List ℕ) (a b : Heard) → a ≡ heard m → b ≡ heard m → a ≡ b
 heard-determined m a b p q = p ∙ sym q
@@ -22,12 +23,12 @@ write-determined due octets a b p q = p .made ∙ sym (q .made)
 
 -- answer 11, and nothing changed
 pub record Refused (target : List ℕ) (left : MessageLeft) : Type 0 where
-  pub number : numberOf (left .answer) ≡ 11
+  pub number : answerNumber (left .answer) ≡ 11
   pub kept : left .target ≡ target
 
-refused : (target : List ℕ) (left : MessageLeft) → left ≡ record { answer = Unfit; target = target } → Refused target left
+refused : (target : List ℕ) (left : MessageLeft) → left ≡ record { answer = NotWritten; target = target } → Refused target left
 refused target left e =
-    record { number = ap (λ (o : MessageLeft). numberOf (o .answer)) e; kept = ap (λ (o : MessageLeft). o .target) e }
+    record { number = ap (λ (o : MessageLeft). answerNumber (o .answer)) e; kept = ap (λ (o : MessageLeft). o .target) e }
 
 pub refused-wide : (installed : List ℕ) (message : UpstreamMessage) (id target : List ℕ) → 1023 < upstreamAddress message .0
     → Refused target (written installed message id target)

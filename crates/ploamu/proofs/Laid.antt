@@ -18,14 +18,14 @@ use Rattle.integrity.specs.declared.Direction.the-variants.{Upstream}
 use Rattle.ploamu.specs.Upstream.{upstreamAddress, upstreamType, upstreamOctets, fitting}
 use Rattle.ploamu.specs.Writing.{MessageLeft, laid, laidBy, writtenBy, Leaves}
 use Rattle.ploamu.specs.declared.UpstreamMessage.{UpstreamMessage}
-use Rattle.ploamu.specs.declared.Written.the-variants.{Done, Unfit}
+use Rattle.answers.specs.declared.Answer.the-variants.{Done, NotWritten}
 
 pub laid-wide : (mic octets target : List ℕ) (fits : Bool) → fits ≡ false
-    → _≡_ {A = MessageLeft} (record { answer = Unfit; target = target }) (laid mic fits octets target)
+    → _≡_ {A = MessageLeft} (record { answer = NotWritten; target = target }) (laid mic fits octets target)
 laid-wide mic octets target fits e = simp e
 
 pub laid-short : (mic octets target : List ℕ) (fits : Bool) → fits ≡ true → length target < messageOctets
-    → _≡_ {A = MessageLeft} (record { answer = Unfit; target = target }) (laid mic fits octets target)
+    → _≡_ {A = MessageLeft} (record { answer = NotWritten; target = target }) (laid mic fits octets target)
 laid-short mic octets target fits e h = simp (e, lt-leb messageOctets (length target) h)
 
 -- one copy after the other

@@ -30,7 +30,7 @@ use Rattle.ploamu.specs.declared.UpstreamMessage.{UpstreamMessage}
 use Rattle.ploamu.specs.declared.UpstreamMessage.the-variants.{SerialNumberOnu, Registration, Acknowledgement}
 use Rattle.ploamu.specs.declared.Heard.{Heard}
 use Rattle.ploamu.specs.declared.Heard.the-variants.{Said, Unheard}
-use Rattle.ploamu.specs.declared.Written.the-variants.{Done}
+use Rattle.answers.specs.declared.Answer.the-variants.{Done}
 
 -- what is read of 48 octets m that came from a message
 pub record Again (installed : List ℕ) (message : UpstreamMessage) (id m : List ℕ) : Type 0 where

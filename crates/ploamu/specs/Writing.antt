@@ -15,17 +15,12 @@ use Rattle.integrity.specs.declared.Direction.{Direction}
 use Rattle.integrity.specs.declared.Direction.the-variants.{Upstream}
 use Rattle.ploamu.specs.Upstream.{upstreamAddress, upstreamType, upstreamOctets, fitting}
 use Rattle.ploamu.specs.declared.UpstreamMessage.{UpstreamMessage}
-use Rattle.ploamu.specs.declared.Written.{Written}
-use Rattle.ploamu.specs.declared.Written.the-variants.{Done, Unfit}
-
--- the numbers of document 01's table
-abbrev pub numberOf : Written → ℕ
-numberOf Done = 0
-numberOf Unfit = 11
+use Rattle.answers.specs.declared.Answer.{Answer}
+use Rattle.answers.specs.declared.Answer.the-variants.{Done, NotWritten}
 
 -- the answer, and what the slice holds afterwards
 pub record MessageLeft : Type 0 where
-  pub answer : Written
+  pub answer : Answer
   pub target : List ℕ
 
 -- octets 1 to 40 and the integrity field over the front of the slice; 11: a value too wide for its field, or a target
@@ -34,7 +29,7 @@ abbrev pub laid : List ℕ → Bool → List ℕ → List ℕ → MessageLeft
 laid mic fits octets target =
     cond (fits && leb messageOctets (length target))
     (record { answer = Done; target = octets ++ mic ++ drop messageOctets target })
-    (record { answer = Unfit; target = target })
+    (record { answer = NotWritten; target = target })
 
 unfoldable pub written : List ℕ → UpstreamMessage → List ℕ → List ℕ → MessageLeft
 written installed message id target =

@@ -15,12 +15,6 @@ pub enum UpstreamMessage {
     Acknowledgement(OnuId, u8, Completion),
 }
 
-// Unfit is answer 11: a value too wide for its field, or a target too short.
-pub enum Written {
-    Done,
-    Unfit,
-}
-
 // What was read of an upstream message; a type or a completion code that is none of these is Other.
 pub enum Heard {
     Said(UpstreamMessage),

@@ -13,7 +13,7 @@ ghost use Rattle.ploamu.specs.Upstream.{capped};
 ghost use Rattle.ploamu.specs.Upstream.{upstreamAddress, upstreamOctets};
 ghost use Rattle.ploamu.specs.Writing.{laidBy, writtenBy, Leaves};
 use super::UpstreamMessage;
-use super::Written;
+use answers::Answer;
 use cmac::Prepared;
 use ids::OnuId;
 use integrity::COVERED_OCTETS;
@@ -202,19 +202,19 @@ fn lay(target: &mut [u8], at: usize, s: &[u8])
 }
 
 // Lays octets 1 to 40 and their integrity field over the front of target.
-fn put(key: Prepared, direction: Direction, fits: bool, b: &[u8; 40], target: &mut [u8]) -> Written
+fn put(key: Prepared, direction: Direction, fits: bool, b: &[u8; 40], target: &mut [u8]) -> Answer
     ensures { λ r. ⌜ record { answer = r; target = now (target .exit) } ≡ laidBy key direction fits (now (b .entry)) (now (target .entry)) ⌝ }
 {
     if fits {
         if target.len() < MESSAGE_OCTETS {
-            return Written::Unfit;
+            return Answer::NotWritten;
         }
         let mic = integrity::sign(key, direction, b);
         lay(target, 0, b);
         lay(target, COVERED_OCTETS, &mic);
-        Written::Done
+        Answer::Done
     } else {
-        Written::Unfit
+        Answer::NotWritten
     }
 }
 
@@ -226,7 +226,7 @@ pub fn write(
     message: UpstreamMessage,
     id: [u8; 36],
     target: &mut [u8],
-) -> Written
+) -> Answer
     ensures { λ r. ⌜ Leaves (writtenBy usual installed message id (now (target .entry))) (upstreamOctets message id) (record { answer = r; target = now (target .exit) }) ⌝ }
 {
     let b = upstream_octets(message, id);

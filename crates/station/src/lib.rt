@@ -4,10 +4,10 @@ ghost use mathlib.Core.Path.{_≡_};
 ghost use Rattle.station.specs.States.{holdsIdentity, isOperating, isRanging, silent, stateNumber};
 ghost use Rattle.station.specs.Station.{withActivation, withLink, withPorts, withCarried};
 ghost use Rattle.station.specs.Station.{powerOn, enter};
+use answers::Answer;
 use link::Link;
 use ports::Ports;
 
-pub mod answers;
 pub mod limits;
 
 // The states of clause 12.1 by the numbers that the paper prints.
@@ -187,4 +187,10 @@ impl Station {
             carried: self.carried,
         }
     }
+}
+
+// What a call answers and the station that it leaves.
+pub struct Outcome {
+    pub answer: Answer,
+    pub station: Station,
 }

@@ -24,7 +24,7 @@ use Rattle.payload.specs.declared.frames.Next.the-variants.{Done, Lost, Frame}
 use Rattle.stretches.specs.declared.Extent.{Extent}
 use Rattle.payload.specs.Frames.{Xgem, xgemHeaderBytes, nextOf, Parsed, ended, with, frameOf, parse}
 use Rattle.payload.specs.Memory.{Receiver, partial, step}
-use Rattle.stretches.specs.Stretch.{noExtent, aloneAt, stretches, stretchOf, sduOf, sdus}
+use Rattle.stretches.specs.Stretch.{noExtent, aloneAt, stretches, extentsOf, stretchOf, sduOf, sdus}
 use Rattle.payload.proofs.Slots.{nothing-held}
 use Rattle.payload.proofs.Steps.{ports-taken}
 use Rattle.payload.proofs.Walks.{frame-inside, parse-done, parse-lost, parse-next}
@@ -87,7 +87,7 @@ own-all payload own s (x ∷ rest) c =
     (own-on payload (s .memory) what x (stretches own (step own s x .ports) rest) (sdus own (step own s x) rest) (c .0) (own-all payload own (step own s x) rest (c .1)))
 
 -- "An unfragmented SDU can also be had as its own stretch": delivery k's bytes, wherever the stretch is not the empty one
-pub stretch-is-delivery : (own : PortId) (s : Receiver) (payload : List ℕ) (k : ℕ)
-    → let t = stretchOf own (s .ports) payload k .stretch in (t ≡ noExtent) ⊎ (take (t .bytes) (drop (t .at) payload) ≡ getD (sdus own s (parse 0 payload .frames)) k [])
-unfolding stretchOf Own
-stretch-is-delivery own s payload k = own-all payload own s (parse 0 payload .frames) (cut payload (length payload) 0 (omega arith)) k
+pub stretch-is-delivery : (own : PortId) (s : Receiver) (f : List ℕ) (begins k : ℕ)
+    → let t = stretchOf own (s .ports) begins f k .stretch in (t ≡ noExtent) ⊎ (take (t .bytes) (drop (t .at) f) ≡ getD (sdus own s (parse begins (drop begins f) .frames)) k [])
+unfolding stretchOf extentsOf Own
+stretch-is-delivery own s f begins k = own-all f own s (parse begins (drop begins f) .frames) (cut f (length f) begins (omega arith)) k

@@ -10,8 +10,8 @@ use lib.ListN.{length, take, drop, length-drop, take-append-drop}
 use lib.Dec.{eqb}
 use lib.Seq.{take-all}
 use borrow.Author.Tests.{eqb-true}
-use Rattle.station.specs.declared.answers.Outcome.{Outcome}
-use Rattle.station.specs.Answers.{answerNumber}
+use Rattle.station.specs.declared.Outcome.{Outcome}
+use Rattle.answers.specs.Answers.{answerNumber}
 use Rattle.station.specs.States.{stateNumber}
 use Rattle.payload.specs.Memory.{put}
 use Rattle.frame.specs.declared.Counts.{Counts}

@@ -6,9 +6,9 @@ use mathlib.Core.List.{List, [], _∷_, _++_}
 use lib.ListN.{length, take, replicate}
 use Rattle.station.specs.declared.Station.{Station}
 use Rattle.station.specs.Station.{powerOn}
-use Rattle.station.specs.declared.answers.Outcome.{Outcome}
+use Rattle.station.specs.declared.Outcome.{Outcome}
 use Rattle.station.specs.Limits.{serialOctets, registrationOctets}
-use Rattle.station.specs.Answers.{answerNumber}
+use Rattle.answers.specs.Answers.{answerNumber}
 use Rattle.station.specs.States.{stateNumber}
 use Rattle.payload.specs.Memory.{put}
 use Rattle.payload.specs.Walk.{memoryBytes}

@@ -11,7 +11,6 @@ use ploam::Message;
 use ploam::Received;
 use ploam::SerialNumber;
 use ploamu::UpstreamMessage;
-use ploamu::Written;
 
 fn text(s: &[u8]) {
     io::write_all(STDOUT_FILENO, s);
@@ -267,9 +266,11 @@ fn omci_message() {
 fn written(name: &[u8], usual: Prepared, installed: Prepared, message: UpstreamMessage) {
     let id = *b"0123456789abcdefghijklmnopqrstuvwxyz";
     let mut target = [0u8; 48];
-    match ploamu::writing::write(usual, installed, message, id, &mut target) {
-        Written::Done => line(name, &target),
-        Written::Unfit => text(b"unfit\n"),
+    let answer = ploamu::writing::write(usual, installed, message, id, &mut target);
+    if answer.number() == 0 {
+        line(name, &target)
+    } else {
+        text(b"unfit\n")
     }
 }
 

@@ -6,7 +6,7 @@ use mathlib.Core.List.{List}
 use Prim.Native.Nat.{ℕ}
 use Rattle.xgem.specs.Reads.{Found, fields, unreadable, short, foundXgem}
 use Rattle.xgem.specs.Writes.{WriteLeft}
-use Rattle.xgem.specs.declared.words.Written.{Written}
+use Rattle.answers.specs.declared.Answer.{Answer}
 use Rattle.xgem.specs.declared.frame.XgemHeader.{XgemHeader}
 use Rattle.xgem.specs.declared.frame.XgemRead.{XgemRead}
 use Rattle.xgem.specs.declared.frame.XgemRead.the-variants.{Fields as XgemFields, Unreadable as XgemUnreadable, Short as XgemShort}
@@ -32,5 +32,5 @@ pub read-xgem-once : (x : Found XgemHeader) (a b : XgemRead) → foundXgem a ≡
 read-xgem-once = told-once foundXgem tellXgem back-xgem
 
 -- write64, write_xgem, write_xgem_frame, and the writers of xgtc: the answer and the target
-pub write-once : (l : WriteLeft) (a b : Written) (u v : List ℕ) → _≡_ {A = WriteLeft} (record { answer = a; target = u }) l → _≡_ {A = WriteLeft} (record { answer = b; target = v }) l → (a ≡ b) × (u ≡ v)
+pub write-once : (l : WriteLeft) (a b : Answer) (u v : List ℕ) → _≡_ {A = WriteLeft} (record { answer = a; target = u }) l → _≡_ {A = WriteLeft} (record { answer = b; target = v }) l → (a ≡ b) × (u ≡ v)
 write-once l a b u v p q = (ap (λ (x : WriteLeft). x .answer) (p ∙ sym q), ap (λ (x : WriteLeft). x .target) (p ∙ sym q))

@@ -19,7 +19,7 @@ use Rattle.octets.specs.Octets.{value, octets}
 use Rattle.xgem.specs.Layouts.{xgemOf, xgemFits, xgemWord, payloadSize}
 use Rattle.xgem.specs.Reads.{Found, fields, taken, readAs, readXgem}
 use Rattle.xgem.specs.Writes.{WriteLeft, put, wrote, writeXgem, writeXgemFrame, carrying, padding, xgemFrame}
-use Rattle.xgem.specs.declared.words.Written.the-variants.{Done}
+use Rattle.answers.specs.declared.Answer.the-variants.{Done}
 use Rattle.xgem.specs.declared.frame.XgemHeader.{XgemHeader}
 use Rattle.octets.proofs.Numbers.{Bytes, value-lt, value-octets, octets-length, octets-value}
 use Rattle.xgem.proofs.Layouts.{xgem-true, xgem-back, xgem-again, xgem-fits}

@@ -12,7 +12,7 @@ use Rattle.hec.specs.Writes.{protected}
 use Rattle.octets.specs.Octets.{value, octets}
 use Rattle.xgem.specs.Reads.{Found, short, taken, readAs}
 use Rattle.xgem.specs.Writes.{WriteLeft, put, wrote}
-use Rattle.xgem.specs.declared.words.Written.the-variants.{Done, Refused}
+use Rattle.answers.specs.declared.Answer.the-variants.{Done, NotWritten}
 
 module _ {X : Type 0} (read : ℕ → Reading) (n : ℕ) (of : ℕ → X) (s : List ℕ) where
   pub read-short : length s < n → short ≡ readAs read n of s
@@ -22,13 +22,13 @@ module _ {X : Type 0} (read : ℕ → Reading) (n : ℕ) (of : ℕ → X) (s : L
   read-found w q x h e r t = rw (le-leb n (length s) h) (t ∙ ap (taken of) (r ∙ ap read e))
 
 module _ (fits : Bool) (s t : List ℕ) where
-  pub unfit : fits ≡ false → _≡_ {A = WriteLeft} (record { answer = Refused; target = t }) (wrote fits s t)
+  pub unfit : fits ≡ false → _≡_ {A = WriteLeft} (record { answer = NotWritten; target = t }) (wrote fits s t)
   unfit e = rw e
 
-  pub no-room : length t < length s → _≡_ {A = WriteLeft} (record { answer = Refused; target = t }) (wrote fits s t)
+  pub no-room : length t < length s → _≡_ {A = WriteLeft} (record { answer = NotWritten; target = t }) (wrote fits s t)
   no-room h = rw (lt-leb (length s) (length t) h) (go fits)
     where
-      go : (b : Bool) → _≡_ {A = WriteLeft} (record { answer = Refused; target = t }) (cond (b && false) (record { answer = Done; target = put t s }) (record { answer = Refused; target = t }))
+      go : (b : Bool) → _≡_ {A = WriteLeft} (record { answer = NotWritten; target = t }) (cond (b && false) (record { answer = Done; target = put t s }) (record { answer = NotWritten; target = t }))
       go true = refl
       go false = refl
 

@@ -9,17 +9,12 @@ use Rattle.ids.specs.declared.PortId.{PortId}
 use Rattle.octets.specs.Octets.{octets}
 use Rattle.xgem.specs.Layouts.{xgemFits, xgemWord, payloadSize}
 use Rattle.xgem.specs.declared.frame.XgemHeader.{XgemHeader}
-use Rattle.xgem.specs.declared.words.Written.{Written}
-use Rattle.xgem.specs.declared.words.Written.the-variants.{Done, Refused}
+use Rattle.answers.specs.declared.Answer.{Answer}
+use Rattle.answers.specs.declared.Answer.the-variants.{Done, NotWritten}
 
--- document 01's number for each answer: 11 where a value is too wide for its field or the target too short
-abbrev pub number : Written → ℕ
-number Done = 0
-number Refused = 11
-
--- the answer, and what the target then holds
+-- the answer, 0 or 11, and what the target then holds
 pub record WriteLeft : Type 0 where
-  pub answer : Written
+  pub answer : Answer
   pub target : List ℕ
 
 -- octets at the start of a target, the rest unchanged
@@ -27,7 +22,7 @@ abbrev pub put : List ℕ → List ℕ → List ℕ
 put t s = s ++ drop (length s) t
 
 abbrev pub wrote : Bool → List ℕ → List ℕ → WriteLeft
-wrote fits s t = cond (fits && leb (length s) (length t)) (record { answer = Done; target = put t s }) (record { answer = Refused; target = t })
+wrote fits s t = cond (fits && leb (length s) (length t)) (record { answer = Done; target = put t s }) (record { answer = NotWritten; target = t })
 
 abbrev pub writeXgem : XgemHeader → List ℕ → WriteLeft
 writeXgem x t = wrote (xgemFits x) (octets 8 (xgemWord x)) t

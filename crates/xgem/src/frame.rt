@@ -1,6 +1,6 @@
 // The XGEM frame: header, payload and padding (clause 9.1).
 use super::words;
-use super::words::Written;
+use answers::Answer;
 use hec::Reading64;
 use hec::Word64;
 use ids::PortId;
@@ -97,7 +97,7 @@ pub fn read_xgem(s: &[u8]) -> XgemRead
 }
 
 // The XGEM header of the fields given, at the start of a target.
-pub fn write_xgem(x: XgemHeader, target: &mut [u8]) -> Written
+pub fn write_xgem(x: XgemHeader, target: &mut [u8]) -> Answer
     ensures { λ r. ⌜ record { answer = r; target = now (target .exit) } ≡ writeXgem x (now (target .entry)) ⌝ }
 {
     words::write64(x.fits(), x.data_bits(), target)
@@ -126,23 +126,23 @@ fn put_payload(sdu: &[u8], size: usize, target: &mut [u8])
 
 // A whole XGEM frame at the start of a target: the header of the fields given, with the SDU's length for its PLI, the SDU
 // and the padding.
-pub fn write_xgem_frame(x: XgemHeader, sdu: &[u8], target: &mut [u8]) -> Written
+pub fn write_xgem_frame(x: XgemHeader, sdu: &[u8], target: &mut [u8]) -> Answer
     ensures { λ r. ⌜ record { answer = r; target = now (target .exit) } ≡ writeXgemFrame x (now (sdu .entry)) (now (target .entry)) ⌝ }
 {
     let length = sdu.len();
     if 0x4000 <= length {
-        return Written::Refused;
+        return Answer::NotWritten;
     }
     let mut header = x;
     header.pli = length as u16;
     if !header.fits() {
-        return Written::Refused;
+        return Answer::NotWritten;
     }
     let size = payload_size(length as u16);
     if target.len() < 8 + size {
-        return Written::Refused;
+        return Answer::NotWritten;
     }
     words::put64(target, hec::write64(header.data_bits()).bits());
     put_payload(sdu, size, &mut target[8..]);
-    Written::Done
+    Answer::Done
 }

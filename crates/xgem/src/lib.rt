@@ -9,5 +9,4 @@ pub use frame::payload_size;
 pub use frame::read_xgem;
 pub use frame::write_xgem;
 pub use frame::write_xgem_frame;
-pub use words::Written;
 pub use words::word_ahead;

@@ -8,12 +8,7 @@ ghost use Rattle.octets.specs.Octets.{value, octets};
 ghost use Rattle.xgem.specs.Layouts.{bit};
 ghost use Rattle.hec.specs.Writes.{protected};
 ghost use Rattle.xgem.specs.Writes.{put, wrote};
-
-// The answer to a writer: 0, or 11 with nothing changed.
-pub enum Written {
-    Done,
-    Refused,
-}
+use answers::Answer;
 
 // Numbers above a byte, so that what a byte times a power needs is known.
 fn wide64(x: u8) -> u64
@@ -70,15 +65,15 @@ pub(crate) fn put64(target: &mut [u8], word: u64)
 }
 
 // The protected word of the data bits at the start of a target, where they fit their fields and the target has room.
-pub fn write64(fits: bool, bits: u64, target: &mut [u8]) -> Written
+pub fn write64(fits: bool, bits: u64, target: &mut [u8]) -> Answer
     ensures { λ r. ⌜ record { answer = r; target = now (target .exit) } ≡ wrote fits (octets 8 (protected (bits % 2 ^ 51))) (now (target .entry)) ⌝ }
 {
     if !fits {
-        return Written::Refused;
+        return Answer::NotWritten;
     }
     if target.len() < 8 {
-        return Written::Refused;
+        return Answer::NotWritten;
     }
     put64(target, hec::write64(bits).bits());
-    Written::Done
+    Answer::Done
 }

@@ -10,7 +10,7 @@ use lib.ListN.{length, take, drop}
 use Rattle.bch.specs.Code.{TrueWord, distance}
 use Rattle.octets.specs.Octets.{value, octets}
 use Rattle.xgem.specs.Reads.{fields}
-use Rattle.xgem.specs.declared.words.Written.the-variants.{Done}
+use Rattle.answers.specs.declared.Answer.the-variants.{Done}
 use Rattle.octets.proofs.Numbers.{Bytes}
 use Rattle.xgem.proofs.RoundTrips.{flipped, clean, again, stands, wrote-done, same-fields}
 use Rattle.xgtc.specs.Layouts.{hlendOf, hlendFits, hlendWord, allocationOf, allocationFits, allocationWord}

@@ -1,8 +1,8 @@
 // The allocation structure: one entry of the bandwidth map (clause 8.1.2).
+use answers::Answer;
 use hec::Reading64;
 use hec::Word64;
 use ids::AllocId;
-use xgem::Written;
 use xgem::words;
 ghost use mathlib.Core.Path.{_≡_};
 ghost use Rattle.hec.specs.Reads.{found64};
@@ -83,7 +83,7 @@ pub fn read_allocation(s: &[u8]) -> AllocationRead
 }
 
 // The allocation structure of the fields given, at the start of a target.
-pub fn write_allocation(a: Allocation, target: &mut [u8]) -> Written
+pub fn write_allocation(a: Allocation, target: &mut [u8]) -> Answer
     ensures { λ r. ⌜ record { answer = r; target = now (target .exit) } ≡ writeAllocation a (now (target .entry)) ⌝ }
 {
     words::write64(a.fits(), a.data_bits(), target)

@@ -1,8 +1,8 @@
 // HLend: how many allocation structures and PLOAM messages stand in front of the payload (clause 8.1.1).
 use super::words;
+use answers::Answer;
 use hec::Reading32;
 use hec::Word32;
-use xgem::Written;
 ghost use mathlib.Core.Path.{_≡_};
 ghost use Rattle.hec.specs.Reads.{found32};
 ghost use Rattle.xgem.specs.Layouts.{behind};
@@ -57,7 +57,7 @@ pub fn read_hlend(s: &[u8]) -> HlendRead
 }
 
 // HLend of the fields given, at the start of a target.
-pub fn write_hlend(h: Hlend, target: &mut [u8]) -> Written
+pub fn write_hlend(h: Hlend, target: &mut [u8]) -> Answer
     ensures { λ r. ⌜ record { answer = r; target = now (target .exit) } ≡ writeHlend h (now (target .entry)) ⌝ }
 {
     let fits = h.bwmap < 0x800;

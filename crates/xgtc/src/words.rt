@@ -1,5 +1,5 @@
 // The 32 bits of HLend as octets of a slice, the most significant first.
-use xgem::Written;
+use answers::Answer;
 ghost use mathlib.Core.Path.{_≡_};
 ghost use Prim.Native.Nat.{_%_, _^_, _≤_};
 ghost use lib.ListN.{length, take};
@@ -26,15 +26,15 @@ fn put32(target: &mut [u8], word: u32)
 }
 
 // The protected word of the data bits at the start of a target, where they fit their fields and the target has room.
-pub(crate) fn write32(fits: bool, bits: u32, target: &mut [u8]) -> Written
+pub(crate) fn write32(fits: bool, bits: u32, target: &mut [u8]) -> Answer
     ensures { λ r. ⌜ record { answer = r; target = now (target .exit) } ≡ wrote fits (octets 4 (protected (bits % 2 ^ 19))) (now (target .entry)) ⌝ }
 {
     if !fits {
-        return Written::Refused;
+        return Answer::NotWritten;
     }
     if target.len() < 4 {
-        return Written::Refused;
+        return Answer::NotWritten;
     }
     put32(target, hec::write32(bits).bits());
-    Written::Done
+    Answer::Done
 }

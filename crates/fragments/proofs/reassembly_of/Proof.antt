@@ -1,5 +1,6 @@
 -- `fragments::reassembly_of` meets its contract.
 -- Assumes nothing.
+use denote.Ref.{now}
 use mathlib.Core.Path.{ap, _∙_}
 use borrow.Author.Tests.{eq-eqb, ne-eqb}
 use Rattle.fragments.specs.Fragments.{atPlace}
@@ -15,9 +16,9 @@ at-place-requires c κs = search needs
 
 returns : tie.Need-returns
 returns c =
-    let a = c .before .before .before .before .before .before .before .args in
-    rw (ne-eqb (a .n) 0 (c .before .before .before .before .before .before .if1 .taken))
-    (c .at-place .ensures ∙ ap (atPlace (a .ports .lengths) (a .ports .waiting) (a .last) (a .n)) (c .before .before .before .before .before .slot-of .ensures .0))
+    let a = c .before .before .before .args in
+    rw (ne-eqb (a .n) 0 (c .before .before .if1 .taken))
+    (c .at-place .ensures ∙ ap (atPlace (now (a .lengths)) (now (a .waiting)) (a .last) (a .n)) (c .before .slot-of .ensures .0))
 
 returns-2 : tie.Need-returns-2
 returns-2 c = rw (eq-eqb _ _ (c .if1 .left))

@@ -16,11 +16,11 @@ arrived c = arriving (now (c .args .frame)) (c .args .random-delay)
 abbrev buffers : tie.Start → Lent
 buffers c = lending (now (c .args .memory)) (now (c .args .plan)) (now (c .args .replies)) (now (c .args .deliveries))
 
-enough-requires : tie.Need-enough-requires
-enough-requires c κs = search needs
-
 in-range-requires : tie.Need-in-range-requires
 in-range-requires c κs = search needs
+
+enough-requires : tie.Need-enough-requires
+enough-requires c κs = search needs
 
 open-requires : tie.Need-open-requires
 open-requires c κs = search needs
@@ -45,16 +45,16 @@ enum-known-h c = search needs
 
 handle-requires : tie.Need-handle-requires
 handle-requires c κs =
-    let o = opened (c .before .before .before .before .before .before .before .before .before .before .before .before .before .before .before .args .s) (now (c .before .before .before .before .before .before .before .before .before .before .before .before .before .before .before .args .frame)) (buffersFit (arrived (c .before .before .before .before .before .before .before .before .before .before .before .before .before .before .before)) (buffers (c .before .before .before .before .before .before .before .before .before .before .before .before .before .before .before))) (c .before .before .before .before .before .h .given .0 .0) (ap (opening (c .before .before .before .before .before .before .before .before .before .before .before .before .before .before .before .args .s) (now (c .before .before .before .before .before .before .before .before .before .before .before .before .before .before .before .args .frame))) (sym (c .before .before .before .before .before .before .before .before .before .enough .ensures)) ∙ sym (c .before .before .before .before .before .before .before .«open» .ensures ∙ opening-is (c .before .before .before .before .before .before .before .before .before .before .before .before .before .before .before .args .s) (now (c .before .before .before .before .before .before .before .before .before .before .before .before .before .before .before .args .frame)) (c .before .before .before .before .before .before .before .before .in-range .result) (c .before .before .before .before .before .before .before .before .before .enough .result) (c .before .before .before .before .before .before .before .before .in-range .ensures)) ∙ c .before .before .before .before .before .h .given .1) in
+    let o = opened (c .before .before .before .before .before .before .before .before .before .before .before .before .before .before .before .args .s) (now (c .before .before .before .before .before .before .before .before .before .before .before .before .before .before .before .args .frame)) (buffersFit (arrived (c .before .before .before .before .before .before .before .before .before .before .before .before .before .before .before)) (buffers (c .before .before .before .before .before .before .before .before .before .before .before .before .before .before .before))) (c .before .before .before .before .before .h .given .0 .0) (ap (opening (c .before .before .before .before .before .before .before .before .before .before .before .before .before .before .before .args .s) (now (c .before .before .before .before .before .before .before .before .before .before .before .before .before .before .before .args .frame))) (sym (c .before .before .before .before .before .before .before .before .enough .ensures)) ∙ sym (c .before .before .before .before .before .before .before .«open» .ensures ∙ opening-is (c .before .before .before .before .before .before .before .before .before .before .before .before .before .before .before .args .s) (now (c .before .before .before .before .before .before .before .before .before .before .before .before .before .before .before .args .frame)) (c .before .before .before .before .before .before .before .before .before .in-range .result) (c .before .before .before .before .before .before .before .before .enough .result) (c .before .before .before .before .before .before .before .before .before .in-range .ensures)) ∙ c .before .before .before .before .before .h .given .1) in
     (o .state, o .fits, o .buffers)
 
 returns : tie.Need-returns
 unfolding frameLeft
-returns c = rw (sym (c .before .before .before .before .before .before .enough .ensures), sym (c .before .before .before .before .«open» .ensures ∙ opening-is (c .before .before .before .before .before .before .before .before .before .before .before .before .args .s) (now (c .before .before .before .before .before .before .before .before .before .before .before .before .args .frame)) (c .before .before .before .before .before .in-range .result) (c .before .before .before .before .before .before .enough .result) (c .before .before .before .before .before .in-range .ensures)), c .before .before .answer .given .1, c .without .ensures)
+returns c = rw (sym (c .before .before .before .before .before .enough .ensures), sym (c .before .before .before .before .«open» .ensures ∙ opening-is (c .before .before .before .before .before .before .before .before .before .before .before .before .args .s) (now (c .before .before .before .before .before .before .before .before .before .before .before .before .args .frame)) (c .before .before .before .before .before .before .in-range .result) (c .before .before .before .before .before .enough .result) (c .before .before .before .before .before .before .in-range .ensures)), c .before .before .answer .given .1, c .without .ensures)
 
 returns-2 : tie.Need-returns-2
 unfolding frameLeft
-returns-2 c = rw (sym (c .before .before .before .before .before .before .before .enough .ensures), sym (c .before .before .before .before .before .«open» .ensures ∙ opening-is (c .before .before .before .before .before .before .before .before .before .before .before .before .before .args .s) (now (c .before .before .before .before .before .before .before .before .before .before .before .before .before .args .frame)) (c .before .before .before .before .before .before .in-range .result) (c .before .before .before .before .before .before .before .enough .result) (c .before .before .before .before .before .before .in-range .ensures)), c .before .before .before .answer2 .given .1, c .without2 .ensures, c .before .unread-time .ensures)
+returns-2 c = rw (sym (c .before .before .before .before .before .before .enough .ensures), sym (c .before .before .before .before .before .«open» .ensures ∙ opening-is (c .before .before .before .before .before .before .before .before .before .before .before .before .before .args .s) (now (c .before .before .before .before .before .before .before .before .before .before .before .before .before .args .frame)) (c .before .before .before .before .before .before .before .in-range .result) (c .before .before .before .before .before .before .enough .result) (c .before .before .before .before .before .before .before .in-range .ensures)), c .before .before .before .answer2 .given .1, c .without2 .ensures, c .before .unread-time .ensures)
 
 same-length : tie.Need-same-length
 same-length c = search needs
@@ -70,14 +70,14 @@ same-length-4 c = search needs
 
 returns-3 : tie.Need-returns-3
 unfolding frameLeft
-returns-3 c = rw (sym (c .before .before .before .before .before .before .before .before .before .before .before .before .before .before .before .before .before .before .enough .ensures), sym (c .before .before .before .before .before .before .before .before .before .before .before .before .before .before .before .before .«open» .ensures ∙ opening-is (c .before .before .before .before .before .before .before .before .before .before .before .before .before .before .before .before .before .before .before .before .before .before .before .before .args .s) (now (c .before .before .before .before .before .before .before .before .before .before .before .before .before .before .before .before .before .before .before .before .before .before .before .before .args .frame)) (c .before .before .before .before .before .before .before .before .before .before .before .before .before .before .before .before .before .in-range .result) (c .before .before .before .before .before .before .before .before .before .before .before .before .before .before .before .before .before .before .enough .result) (c .before .before .before .before .before .before .before .before .before .before .before .before .before .before .before .before .before .in-range .ensures)), c .before .before .before .before .before .before .before .before .before .before .before .before .before .before .h .given .1) (c .before .before .before .before .before .before .before .before .handle .ensures)
+returns-3 c = rw (sym (c .before .before .before .before .before .before .before .before .before .before .before .before .before .before .before .before .before .enough .ensures), sym (c .before .before .before .before .before .before .before .before .before .before .before .before .before .before .before .before .«open» .ensures ∙ opening-is (c .before .before .before .before .before .before .before .before .before .before .before .before .before .before .before .before .before .before .before .before .before .before .before .before .args .s) (now (c .before .before .before .before .before .before .before .before .before .before .before .before .before .before .before .before .before .before .before .before .before .before .before .before .args .frame)) (c .before .before .before .before .before .before .before .before .before .before .before .before .before .before .before .before .before .before .in-range .result) (c .before .before .before .before .before .before .before .before .before .before .before .before .before .before .before .before .before .enough .result) (c .before .before .before .before .before .before .before .before .before .before .before .before .before .before .before .before .before .before .in-range .ensures)), c .before .before .before .before .before .before .before .before .before .before .before .before .before .before .h .given .1) (c .before .before .before .before .before .before .before .before .handle .ensures)
 
 pub frame-spec : {M : Type 1} → statement M
 frame-spec =
     tie.close
     (tie.spec
-    enough-requires
     in-range-requires
+    enough-requires
     open-requires
     enum-known-answer
     without-requires

@@ -1,18 +1,19 @@
 -- `boundary::arrivals::lingbarrow_stretch` meets its contract.
 -- Assumes nothing.
-use mathlib.Core.Path.{_≡_, refl, sym, ap, ap₂, _∙_}
-use native.Mathlib.Omega.{arith}
 use denote.Ref.{now}
-use borrow.Author.Tests.{le-leb, lt-leb, le-ltb, lt-ltb}
+use borrow.Author.Tests.{le-leb, lt-leb}
 use Rattle.boundary.specs.Frames.{placeOn}
-use Rattle.boundary.proofs.Laws.{is-held, is-unreadable, is-short, place-held, place-unreadable, place-short}
+use Rattle.boundary.proofs.Laws.{is-held, is-unreadable, is-short, no-room, place-held, place-unreadable, place-short}
 use borrow.Author.Needs.{needs}
 use Rattle.boundary.proofs.arrivals.lingbarrow_stretch.Statement.{statement}
 use Rattle.boundary.proofs.arrivals.lingbarrow_stretch.Tie as tie
 
+opened-requires : tie.Need-opened-requires
+opened-requires c κs = search needs
+
 returns : tie.Need-returns
 unfolding placeOn
-returns c = rw (lt-leb _ _ (c .if1 .taken))
+returns c = rw (lt-leb _ _ (c .before .if1 .taken)) (λ j. record { answer = no-room (now (c .before .before .before .before .before .args .state)) (now (c .before .before .before .before .before .args .frame)) (now (c .before .before .before .before .before .args .place)) 2 _ (c .before .if1 .taken) (c .opened .ensures) j; place = now (c .before .before .before .before .before .args .place) })
 
 read-state-requires : tie.Need-read-state-requires
 read-state-requires c κs = search needs
@@ -66,6 +67,7 @@ pub lingbarrow-stretch-spec : {M : Type 1} → statement M
 lingbarrow-stretch-spec =
     tie.close
     (tie.spec
+    opened-requires
     returns
     read-state-requires
     enum-told

@@ -3,7 +3,7 @@
 use mathlib.Core.Path.{_∙_, sym}
 use mathlib.Core.Bool.{true}
 use denote.Ref.{now}
-use Rattle.downstream.proofs.Laws.{opening-is, opened}
+use Rattle.downstream.proofs.Laws.{opening-is}
 use Rattle.engine.specs.Stretch.{stretchPlace}
 use borrow.Author.Needs.{needs}
 use Rattle.engine.proofs.stretching.stretch_place.Statement.{statement}
@@ -31,7 +31,7 @@ enum-known-h : tie.Need-enum-known-h
 enum-known-h c = search needs
 
 place-in-requires : tie.Need-place-in-requires
-place-in-requires c κs = opened (c .before .before .before .before .before .before .args .s) (now (c .before .before .before .before .before .before .args .frame)) true (c .before .h .given .0 .0) (sym (c .before .before .before .«open» .ensures ∙ opening-is (c .before .before .before .before .before .before .args .s) (now (c .before .before .before .before .before .before .args .frame)) (c .before .before .before .before .in-range .result) true (c .before .before .before .before .in-range .ensures)) ∙ c .before .h .given .1) .fits
+place-in-requires c κs = search needs
 
 returns : tie.Need-returns
 unfolding stretchPlace

@@ -1,7 +1,7 @@
 -- `layout::known::octets_known` meets its contract.
 -- Assumes nothing.
 use mathlib.Core.Path.{_≡_, sym, _∙_}
-use borrow.Author.Tests.{not-true, not-false}
+use borrow.Author.Tests.{not-true, not-false, eq-eqb, ne-eqb}
 use native.Mathlib.Omega.{arith}
 use denote.Ref.{now}
 use lib.ListN.{take}
@@ -17,8 +17,11 @@ use Rattle.layout.proofs.known.octets_known.Tie as tie
 whole : (c : tie.After-shared-slice-known) → let b = now (c .before .args .b) in same (encoded (shown b)) (take stateBytes b) ≡ octetsKnown b
 whole c = octets-known (now (c .before .args .b)) (c .before .pre) (λ k. omega (arith, c .shared-slice-known .given k))
 
-shared-slice-read-held : tie.Need-shared-slice-read-held
-shared-slice-read-held c = search needs
+shared-slice-read-version : tie.Need-shared-slice-read-version
+shared-slice-read-version c = search needs
+
+returns : tie.Need-returns
+returns c = sym (rw (ne-eqb _ _ (c .if1 .taken)) at (whole (c .before .before)))
 
 sub-activation-known : tie.Need-sub-activation-known
 sub-activation-known c = search needs
@@ -32,14 +35,17 @@ part-activation-known-end c = search needs
 activation-known-requires : tie.Need-activation-known-requires
 activation-known-requires c κs = search needs
 
-returns : tie.Need-returns
-returns c = sym (rw (sym (c .before .activation-known .ensures) ∙ not-true _ (c .if1 .taken)) at (whole (c .before .before .before .before)))
+returns-2 : tie.Need-returns-2
+returns-2 c = sym (rw (eq-eqb _ _ (c .before .before .before .if1 .left), sym (c .before .activation-known .ensures) ∙ not-true _ (c .if2 .taken)) at (whole (c .before .before .before .before .before)))
+
+shared-slice-read-held : tie.Need-shared-slice-read-held
+shared-slice-read-held c = search needs
 
 mark-known-requires : tie.Need-mark-known-requires
 mark-known-requires c κs = search needs
 
-returns-2 : tie.Need-returns-2
-returns-2 c = sym (rw (sym (c .before .before .before .activation-known .ensures) ∙ not-false _ (c .before .before .if1 .left), sym (c .before .mark-known .ensures) ∙ not-true _ (c .if2 .taken)) at (whole (c .before .before .before .before .before .before)))
+returns-3 : tie.Need-returns-3
+returns-3 c = sym (rw (eq-eqb _ _ (c .before .before .before .before .before .before .if1 .left), sym (c .before .before .before .before .activation-known .ensures) ∙ not-false _ (c .before .before .before .if2 .left), sym (c .before .mark-known .ensures) ∙ not-true _ (c .if3 .taken)) at (whole (c .before .before .before .before .before .before .before .before)))
 
 sub-answers-known : tie.Need-sub-answers-known
 sub-answers-known c = search needs
@@ -53,8 +59,8 @@ part-answers-known-end c = search needs
 answers-known-requires : tie.Need-answers-known-requires
 answers-known-requires c κs = search needs
 
-returns-3 : tie.Need-returns-3
-returns-3 c = sym (rw (sym (c .before .before .before .before .before .before .activation-known .ensures) ∙ not-false _ (c .before .before .before .before .before .if1 .left), sym (c .before .before .before .before .mark-known .ensures) ∙ not-false _ (c .before .before .before .if2 .left), sym (c .before .answers-known .ensures) ∙ not-true _ (c .if3 .taken)) at (whole (c .before .before .before .before .before .before .before .before .before)))
+returns-4 : tie.Need-returns-4
+returns-4 c = sym (rw (eq-eqb _ _ (c .before .before .before .before .before .before .before .before .before .if1 .left), sym (c .before .before .before .before .before .before .before .activation-known .ensures) ∙ not-false _ (c .before .before .before .before .before .before .if2 .left), sym (c .before .before .before .before .mark-known .ensures) ∙ not-false _ (c .before .before .before .if3 .left), sym (c .before .answers-known .ensures) ∙ not-true _ (c .if4 .taken)) at (whole (c .before .before .before .before .before .before .before .before .before .before .before)))
 
 sub-marks-known : tie.Need-sub-marks-known
 sub-marks-known c = search needs
@@ -68,36 +74,30 @@ part-marks-known-end c = search needs
 marks-known-requires : tie.Need-marks-known-requires
 marks-known-requires c κs = search needs
 
-returns-4 : tie.Need-returns-4
-returns-4 c = sym (rw (sym (c .before .before .before .before .before .before .before .before .before .activation-known .ensures) ∙ not-false _ (c .before .before .before .before .before .before .before .before .if1 .left), sym (c .before .before .before .before .before .before .before .mark-known .ensures) ∙ not-false _ (c .before .before .before .before .before .before .if2 .left), sym (c .before .before .before .before .answers-known .ensures) ∙ not-false _ (c .before .before .before .if3 .left), sym (c .before .marks-known .ensures) ∙ not-true _ (c .if4 .taken)) at (whole (c .before .before .before .before .before .before .before .before .before .before .before .before)))
-
-shared-slice-read-result : tie.Need-shared-slice-read-result
-shared-slice-read-result c = search needs
-
 returns-5 : tie.Need-returns-5
-returns-5 c = sym (rw (sym (c .before .before .before .before .before .before .before .before .before .before .activation-known .ensures) ∙ not-false _ (c .before .before .before .before .before .before .before .before .before .if1 .left), sym (c .before .before .before .before .before .before .before .before .mark-known .ensures) ∙ not-false _ (c .before .before .before .before .before .before .before .if2 .left), sym (c .before .before .before .before .before .answers-known .ensures) ∙ not-false _ (c .before .before .before .before .if3 .left), sym (c .before .before .marks-known .ensures) ∙ not-false _ (c .before .if4 .left)) at (whole (c .before .before .before .before .before .before .before .before .before .before .before .before .before)))
+returns-5 c = sym (rw (eq-eqb _ _ (c .before .before .before .before .before .before .before .before .before .before .before .if1 .left), sym (c .before .before .before .before .before .before .before .before .before .activation-known .ensures) ∙ not-false _ (c .before .before .before .before .before .before .before .before .if2 .left), sym (c .before .before .before .before .before .before .mark-known .ensures) ∙ not-false _ (c .before .before .before .before .before .if3 .left), sym (c .before .before .before .answers-known .ensures) ∙ not-false _ (c .before .before .if4 .left), sym (c .marks-known .ensures)) at (whole (c .before .before .before .before .before .before .before .before .before .before .before .before .before)))
 
 pub octets-known-spec : {M : Type 1} → statement M
 octets-known-spec =
     tie.close
     (tie.spec
-    shared-slice-read-held
+    shared-slice-read-version
+    returns
     sub-activation-known
     part-activation-known-start
     part-activation-known-end
     activation-known-requires
-    returns
-    mark-known-requires
     returns-2
+    shared-slice-read-held
+    mark-known-requires
+    returns-3
     sub-answers-known
     part-answers-known-start
     part-answers-known-end
     answers-known-requires
-    returns-3
+    returns-4
     sub-marks-known
     part-marks-known-start
     part-marks-known-end
     marks-known-requires
-    returns-4
-    shared-slice-read-result
     returns-5)

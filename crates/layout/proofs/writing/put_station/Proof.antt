@@ -1,17 +1,16 @@
 -- `layout::writing::put_station` meets its contract.
 -- Assumes nothing.
-use mathlib.Core.Path.{_≡_, refl, sym, ap, _∙_}
+use mathlib.Core.Path.{_≡_, refl}
 use native.Mathlib.Omega.{arith}
 use denote.Ref.{now}
 use mathlib.Core.List.{List, _++_}
-use Prim.Native.Nat.{ℕ, _+_}
+use Prim.Native.Nat.{ℕ}
 use Rattle.octets.specs.Octets.{octets}
-use Rattle.xgem.specs.Writes.{put}
-use Rattle.layout.proofs.Laws.{behind, joined, one-octet}
+use Rattle.layout.proofs.Laws.{behind, joined}
 use lib.ListN.{length}
-use Rattle.layout.specs.Layout.{identityOctets, linkOctets, portsOctets, carriedOctets, encoded}
+use Rattle.layout.specs.Layout.{identityOctets, linkOctets, portsOctets, encoded}
 use borrow.Author.Needs.{needs}
-use Rattle.layout.specs.Offsets.{linkAt, linkWidth, portsAt, portsWidth, carriedAt, wordsWidth, reservedWidth, stateBytes}
+use Rattle.layout.specs.Offsets.{linkAt, linkWidth, portsAt, portsWidth, carriedAt, wordsWidth, stateBytes}
 use Rattle.layout.proofs.writing.put_station.Statement.{statement}
 use Rattle.layout.proofs.writing.put_station.Tie as tie
 
@@ -42,17 +41,17 @@ part-put-ports-end c = search needs
 put-ports-requires : tie.Need-put-ports-requires
 put-ports-requires c κs = search needs
 
-sub-put-carried : tie.Need-sub-put-carried
-sub-put-carried c = search needs
+sub-put16 : tie.Need-sub-put16
+sub-put16 c = search needs
 
-part-put-carried-start : tie.Need-part-put-carried-start
-part-put-carried-start c = search needs
+part-put16-start : tie.Need-part-put16-start
+part-put16-start c = search needs
 
-part-put-carried-end : tie.Need-part-put-carried-end
-part-put-carried-end c = search needs
+part-put16-end : tie.Need-part-put16-end
+part-put16-end c = search needs
 
-put-carried-requires : tie.Need-put-carried-requires
-put-carried-requires c κs = search needs
+put16-requires : tie.Need-put16-requires
+put16-requires c κs = search needs
 
 same-length : tie.Need-same-length
 same-length c = search needs
@@ -70,9 +69,8 @@ returns c =
     let e3 = behind t p2 (portsOctets (c .before .before .before .before .before .before .before .before .before .before .before .before .before .before .before .before .before .before .before .before .before .args .s .ports)) _ _ _ portsAt portsWidth l2 (c .before .before .before .before .before .before .put-ports .ensures .1) (omega (arith, c .before .before .before .before .before .before .before .before .before .before .before .before .before .before .before .before .before .before .before .before .before .pre)) e2 refl (c .before .before .before .before .before .before .put-ports .ensures .0) in
     let p3 : List ℕ = p2 ++ (portsOctets (c .before .before .before .before .before .before .before .before .before .before .before .before .before .before .before .before .before .before .before .before .before .args .s .ports)) in
     let l3 : length p3 ≡ carriedAt = joined p2 (portsOctets (c .before .before .before .before .before .before .before .before .before .before .before .before .before .before .before .before .before .before .before .before .before .args .s .ports)) portsAt portsWidth l2 (c .before .before .before .before .before .before .put-ports .ensures .1) in
-    let e4 = behind t p3 (carriedOctets (c .before .before .before .before .before .before .before .before .before .before .before .before .before .before .before .before .before .before .before .before .before .args .s .carried)) _ _ _ carriedAt (wordsWidth + reservedWidth) l3 refl (omega (arith, c .before .before .before .before .before .before .before .before .before .before .before .before .before .before .before .before .before .before .before .before .before .pre)) e3 refl (c .before .before .put-carried .ensures) in
-    let p4 : List ℕ = p3 ++ (carriedOctets (c .before .before .before .before .before .before .before .before .before .before .before .before .before .before .before .before .before .before .before .before .before .args .s .carried)) in
-    let l4 : length p4 ≡ stateBytes = joined p3 (carriedOctets (c .before .before .before .before .before .before .before .before .before .before .before .before .before .before .before .before .before .before .before .before .before .args .s .carried)) carriedAt (wordsWidth + reservedWidth) l3 refl in
+    let e4 = behind t p3 (octets wordsWidth (c .before .before .before .before .before .before .before .before .before .before .before .before .before .before .before .before .before .before .before .before .before .args .s .carried)) _ _ _ carriedAt wordsWidth l3 refl (omega (arith, c .before .before .before .before .before .before .before .before .before .before .before .before .before .before .before .before .before .before .before .before .before .pre)) e3 refl (c .before .before .put16 .ensures) in
+    let l4 : length (p3 ++ octets wordsWidth (c .before .before .before .before .before .before .before .before .before .before .before .before .before .before .before .before .before .before .before .before .before .args .s .carried)) ≡ stateBytes = joined p3 (octets wordsWidth (c .before .before .before .before .before .before .before .before .before .before .before .before .before .before .before .before .before .before .before .before .before .args .s .carried)) carriedAt wordsWidth l3 refl in
     (e4, l4)
 
 pub put-station-spec : {M : Type 1} → statement M
@@ -88,9 +86,9 @@ put-station-spec =
     part-put-ports-start
     part-put-ports-end
     put-ports-requires
-    sub-put-carried
-    part-put-carried-start
-    part-put-carried-end
-    put-carried-requires
+    sub-put16
+    part-put16-start
+    part-put16-end
+    put16-requires
     same-length
     returns)
