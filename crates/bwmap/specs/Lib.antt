@@ -5,4 +5,3 @@ pub mod Turns
 pub mod Verdicts
 pub mod Sums
 pub mod Names
-pub mod Facts
