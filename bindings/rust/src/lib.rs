@@ -540,7 +540,7 @@ impl<'f> Arriving<'_, 'f> {
     /// [records](Received::records), in the same order. `lent` holds the names while they are looked at.
     ///
     /// ```
-    /// # use lingbarrow::{write_allocation, write_hlend, AllocId, Allocation, Name, Station, NAMES};
+    /// # use lingbarrow::{write_hlend, Name, Station, NAMES};
     /// # let mut station = Station::power_on([0; 8], [0; 36]);
     /// # let mut frame = [0; 1024];
     /// # write_hlend(1, 0, &mut frame)?;
