@@ -28,7 +28,7 @@
 #error "Lingbarrow is code for 64-bit x86-64 Linux; define LINGBARROW_ANY_TARGET to check syntax for another target"
 #endif
 
-#define LINGBARROW_VERSION "0.3.0"
+#define LINGBARROW_VERSION "0.4.0"
 #define LINGBARROW_VERSION_MAJOR 0
 #define LINGBARROW_VERSION_MINOR 3
 #define LINGBARROW_VERSION_PATCH 0
