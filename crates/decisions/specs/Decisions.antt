@@ -25,9 +25,9 @@ use Rattle.ids.specs.Places.{isHeld}
 use Rattle.ploam.specs.declared.Completion.the-variants.{Ok, UnknownMessageType, ParameterError, ProcessingError}
 use Rattle.link.specs.declared.Response.the-variants.{Registration}
 use Rattle.link.specs.Limits.{addedAllocs, mostOwed}
-use Rattle.station.specs.States.{holdsIdentity, stateNumber, o23, o5, o7}
+use Rattle.station.specs.States.{holdsIdentity, stateNumber, o23, o4, o5, o7}
 use Rattle.link.specs.Link.{allocPlace}
-use Rattle.effects.specs.declared.Change.the-variants.{Keep, Identify, AddAlloc, RemoveAlloc, Enter}
+use Rattle.effects.specs.declared.Change.the-variants.{Keep, Identify, AddAlloc, RemoveAlloc, SetProfile, Enter}
 use Rattle.effects.specs.declared.Debt.{Debt}
 use Rattle.effects.specs.declared.Debt.the-variants.{Free, Owes}
 use Rattle.effects.specs.declared.Effect.{Effect}
@@ -36,6 +36,13 @@ use Rattle.decisions.specs.Ranging.{rangingTime}
 
 abbrev pub sameSerial : SerialNumber → SerialNumber → Bool
 sameSerial a b = eqb (a .vendor) (b .vendor) && eqb (a .vssn) (b .vssn)
+
+-- "the Profile message of clause 11.3 (broadcast in O2-3, O4, O5; directed in O5 only, owing OK)"
+unfoldable pub profile : ℕ → Bool → ℕ → ℕ → Bool → Effect
+profile state broadcast seq index parity =
+    cond broadcast
+    (cond (eqb state o23 || (eqb state o4 || eqb state o5)) (does (SetProfile index parity)) ignored)
+    (cond (eqb state o5) (answers (SetProfile index parity) Ok seq) ignored)
 
 -- "Assign_ONU-ID, broadcast, own serial number, ID at most 1022, in O2-3: to O4"
 unfoldable pub assignOnuId : ℕ → Bool → Bool → OnuId → Effect
@@ -90,7 +97,7 @@ unknownType state broadcast seq = cond (not broadcast && eqb state o5) (answers 
 
 -- what the message says, to a station in this state
 abbrev pub byContent : Station → Bool → ℕ → Content → Effect
-byContent s broadcast seq Profile = ignored
+byContent s broadcast seq (Profile index parity) = profile (stateNumber (s .activation)) broadcast seq index parity
 byContent s broadcast seq (AssignOnuId onu serial) =
     assignOnuId (stateNumber (s .activation)) broadcast (sameSerial (serialAt (s .serial) 0) serial) onu
 byContent s broadcast seq (RangingTime way amount) =

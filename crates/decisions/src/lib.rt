@@ -2,7 +2,7 @@
 // each.
 ghost use mathlib.Core.Path.{_≡_};
 ghost use mathlib.Core.Bool.{Bool};
-ghost use Rattle.decisions.specs.Decisions.{sameSerial, assignOnuId, allocChange, assignAllocId};
+ghost use Rattle.decisions.specs.Decisions.{sameSerial, profile, assignOnuId, allocChange, assignAllocId};
 ghost use Rattle.decisions.specs.Decisions.{requestRegistration, deactivate, switchOff, switchOn, switched, disable};
 ghost use Rattle.decisions.specs.Decisions.{unknownType, byContent, fitting};
 ghost use Rattle.decisions.specs.Acts.{Decides};
@@ -29,6 +29,7 @@ use ploam::SerialNumber;
 use ploam::Switch;
 use ploam::reading::serial_number;
 use station::Activation;
+use station::O4;
 use station::O5;
 use station::O7;
 use station::O23;
@@ -38,6 +39,28 @@ fn same_serial(a: SerialNumber, b: SerialNumber) -> bool
     ensures { λ r. ⌜ r ≡ sameSerial a b ⌝ }
 {
     a.vendor == b.vendor && a.vssn == b.vssn
+}
+
+// Broadcast in O2-3, O4 and O5; directed in O5 alone.
+fn profile(state: u8, broadcast: bool, seq: u8, index: u8, parity: bool) -> Effect
+    ensures { λ r. ⌜ r ≡ profile state broadcast seq index parity ⌝ }
+{
+    if state == O5 {
+        if broadcast {
+            return does(Change::SetProfile(index, parity));
+        }
+        return answers(Change::SetProfile(index, parity), Completion::Ok, seq);
+    }
+    if !broadcast {
+        return ignored();
+    }
+    if state == O4 {
+        return does(Change::SetProfile(index, parity));
+    }
+    if state == O23 {
+        return does(Change::SetProfile(index, parity));
+    }
+    ignored()
 }
 
 fn assign_onu_id(state: u8, broadcast: bool, own: bool, onu: OnuId) -> Effect
@@ -199,7 +222,7 @@ fn by_content(s: Station, broadcast: bool, seq: u8, content: Content) -> Effect
     let allocs = link.allocs;
     let octets = s.serial;
     match content {
-        Content::Profile => ignored(),
+        Content::Profile(index, parity) => profile(state, broadcast, seq, index, parity),
         Content::AssignOnuId(onu, serial) => {
             assign_onu_id(
                 state,

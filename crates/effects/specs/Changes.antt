@@ -6,11 +6,12 @@ use Rattle.ids.specs.declared.OnuId.{OnuId}
 use Rattle.station.specs.declared.Activation.the-variants.{Ranging, Operation}
 use Rattle.station.specs.declared.Station.{Station}
 use Rattle.station.specs.Limits.{to1}
-use Rattle.link.specs.Link.{withOnu, withDelay, withAllocs, withOwed, addAlloc, removeAlloc, owe}
+use Rattle.link.specs.Link.{withOnu, withDelay, withAllocs, withOwed, withProfiles, addAlloc, removeAlloc, owe}
+use Rattle.link.specs.Profiles.{setProfile}
 use Rattle.ports.specs.Ports.{clearManagement}
 use Rattle.station.specs.Station.{enter, withActivation, withLink, withPorts}
 use Rattle.effects.specs.declared.Change.{Change}
-use Rattle.effects.specs.declared.Change.the-variants.{Keep, Identify, Range, Delay, AddAlloc, RemoveAlloc, Enter}
+use Rattle.effects.specs.declared.Change.the-variants.{Keep, Identify, Range, Delay, AddAlloc, RemoveAlloc, SetProfile, Enter}
 use Rattle.effects.specs.declared.Debt.{Debt}
 use Rattle.effects.specs.declared.Debt.the-variants.{Free, Owes}
 use Rattle.effects.specs.declared.Effect.{Effect}
@@ -33,6 +34,7 @@ applyChange s (Range delay) = range s delay
 applyChange s (Delay delay) = setDelay s delay
 applyChange s (AddAlloc id) = withLink s (withAllocs (s .link) (addAlloc (s .link .allocs) id))
 applyChange s (RemoveAlloc id) = withLink s (withAllocs (s .link) (removeAlloc (s .link .allocs) id))
+applyChange s (SetProfile index parity) = withLink s (withProfiles (s .link) (setProfile (s .link .profiles) index parity))
 applyChange s (Enter a) = enter s a
 
 abbrev pub applyDebt : Station → Debt → Station

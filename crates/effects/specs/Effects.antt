@@ -6,7 +6,7 @@ use Rattle.ploam.specs.declared.Completion.{Completion}
 use Rattle.link.specs.declared.Response.{Response}
 use Rattle.link.specs.declared.Response.the-variants.{Acknowledgement}
 use Rattle.effects.specs.declared.Change.{Change}
-use Rattle.effects.specs.declared.Change.the-variants.{Keep, Identify, Range, Delay, AddAlloc, RemoveAlloc, Enter}
+use Rattle.effects.specs.declared.Change.the-variants.{Keep, Identify, Range, Delay, AddAlloc, RemoveAlloc, SetProfile, Enter}
 use Rattle.effects.specs.declared.Debt.{Debt}
 use Rattle.effects.specs.declared.Debt.the-variants.{Free, Owes}
 use Rattle.effects.specs.declared.Effect.{Effect}
@@ -33,6 +33,7 @@ kept (Range delay) = false
 kept (Delay delay) = false
 kept (AddAlloc id) = false
 kept (RemoveAlloc id) = false
+kept (SetProfile index parity) = false
 kept (Enter a) = false
 
 abbrev pub free : Debt → Bool

@@ -48,6 +48,10 @@ fn apply_change(s: Station, change: Change) -> Station
         Change::Delay(delay) => set_delay(s, delay),
         Change::AddAlloc(id) => s.with_link(link.with_allocs(allocs.add(id))),
         Change::RemoveAlloc(id) => s.with_link(link.with_allocs(allocs.remove(id))),
+        Change::SetProfile(index, parity) => {
+            let profiles = link.profiles;
+            s.with_link(link.with_profiles(profiles.set(index, parity)))
+        }
         Change::Enter(a) => s.enter(a),
     }
 }

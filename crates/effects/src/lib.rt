@@ -21,6 +21,8 @@ pub enum Change {
     Delay(u32),
     AddAlloc(AllocId),
     RemoveAlloc(AllocId),
+    // its index, and whether bursts have parity
+    SetProfile(u8, bool),
     Enter(Activation),
 }
 
@@ -51,6 +53,7 @@ impl Effect {
             Change::Delay(_) => false,
             Change::AddAlloc(_) => false,
             Change::RemoveAlloc(_) => false,
+            Change::SetProfile(_, _) => false,
             Change::Enter(_) => false,
         }
     }

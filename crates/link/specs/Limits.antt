@@ -12,3 +12,7 @@ mostOwed = 8
 -- 15.6.2: octets of a key
 abbrev pub keyOctets : ℕ
 keyOctets = 16
+
+-- 8.1.2.6: the index of a burst profile has two bits
+abbrev pub profiles : ℕ
+profiles = 4

@@ -13,12 +13,14 @@ use Rattle.link.specs.declared.Owed.{Owed}
 use Rattle.link.specs.declared.Key.{Key}
 use Rattle.link.specs.declared.Allocs.{Allocs}
 use Rattle.link.specs.declared.Queue.{Queue}
+use Rattle.link.specs.declared.Profiles.{Profiles}
 use Rattle.link.specs.declared.Link.{Link}
 use Rattle.ids.specs.declared.Place.{Place}
 use Rattle.ids.specs.declared.Place.the-variants.{At, Nowhere}
 use Rattle.link.specs.Limits.{addedAllocs, mostOwed, keyOctets}
 use Rattle.ids.specs.Places.{placeFrom}
 use Rattle.link.specs.Lists.{closeUp}
+use Rattle.link.specs.Profiles.{noProfiles}
 
 -- ---- nothing held: what is no longer looked at is overwritten, so that equal histories give equal states
 
@@ -38,7 +40,7 @@ abbrev pub noneOwed : Queue
 noneOwed = record { answers = replicate mostOwed blank; count = 0 }
 
 abbrev pub nothing : Link
-nothing = record { onu = broadcastOnu; allocs = noAllocs; delay = 0; key = noKey; owed = noneOwed }
+nothing = record { onu = broadcastOnu; allocs = noAllocs; delay = 0; key = noKey; owed = noneOwed; profiles = noProfiles }
 
 -- ---- the added Alloc-IDs
 
@@ -82,16 +84,19 @@ installed octets = record { held = true; octets = octets }
 -- ---- a link that differs in one thing
 
 abbrev pub withOnu : Link → OnuId → Link
-withOnu l onu = record { onu = onu; allocs = l .allocs; delay = l .delay; key = l .key; owed = l .owed }
+withOnu l onu = record { onu = onu; allocs = l .allocs; delay = l .delay; key = l .key; owed = l .owed; profiles = l .profiles }
 
 abbrev pub withAllocs : Link → Allocs → Link
-withAllocs l allocs = record { onu = l .onu; allocs = allocs; delay = l .delay; key = l .key; owed = l .owed }
+withAllocs l allocs = record { onu = l .onu; allocs = allocs; delay = l .delay; key = l .key; owed = l .owed; profiles = l .profiles }
 
 abbrev pub withDelay : Link → ℕ → Link
-withDelay l delay = record { onu = l .onu; allocs = l .allocs; delay = delay; key = l .key; owed = l .owed }
+withDelay l delay = record { onu = l .onu; allocs = l .allocs; delay = delay; key = l .key; owed = l .owed; profiles = l .profiles }
 
 abbrev pub withKey : Link → Key → Link
-withKey l key = record { onu = l .onu; allocs = l .allocs; delay = l .delay; key = key; owed = l .owed }
+withKey l key = record { onu = l .onu; allocs = l .allocs; delay = l .delay; key = key; owed = l .owed; profiles = l .profiles }
 
 abbrev pub withOwed : Link → Queue → Link
-withOwed l owed = record { onu = l .onu; allocs = l .allocs; delay = l .delay; key = l .key; owed = owed }
+withOwed l owed = record { onu = l .onu; allocs = l .allocs; delay = l .delay; key = l .key; owed = owed; profiles = l .profiles }
+
+abbrev pub withProfiles : Link → Profiles → Link
+withProfiles l p = record { onu = l .onu; allocs = l .allocs; delay = l .delay; key = l .key; owed = l .owed; profiles = p }

@@ -9,7 +9,8 @@ ghost use Rattle.link.specs.Limits.{addedAllocs, mostOwed};
 ghost use Rattle.link.specs.Lists.{closeUp};
 ghost use Rattle.link.specs.Link.{noAlloc, blank, noKey, noAllocs, noneOwed, nothing, installed};
 ghost use Rattle.link.specs.Link.{allocPlace, addAlloc, removeAlloc, owe, paid, oldest};
-ghost use Rattle.link.specs.Link.{withOnu, withDelay, withKey, withAllocs, withOwed};
+ghost use Rattle.link.specs.Link.{withOnu, withDelay, withKey, withAllocs, withOwed, withProfiles};
+ghost use Rattle.link.specs.Profiles.{profileIndex, received, noProfiles, profileAt, setProfile};
 use ids::AllocId;
 use ids::OnuId;
 use ids::Place;
@@ -19,6 +20,9 @@ use ploam::Completion;
 pub const ADDED_ALLOCS: usize = 16;
 
 pub const MOST_OWED: usize = 8;
+
+// Burst profiles: an index has two bits, 8.1.2.6.
+pub const PROFILES: u8 = 4;
 
 // Octets of a key, 15.6.2.
 pub const KEY_OCTETS: usize = 16;
@@ -41,6 +45,22 @@ pub struct Key {
     pub octets: [u8; 16],
 }
 
+// What is known of the parity of a burst profile (11.3.3.1).
+pub enum Parity {
+    NotReceived,
+    Off,
+    On,
+}
+
+pub struct Profile {
+    pub parity: Parity,
+}
+
+// The burst profiles, by their index.
+pub struct Profiles {
+    pub held: [Profile; 4],
+}
+
 // The added Alloc-IDs in the order of their adding; past the count there is 0.
 pub struct Allocs {
     pub ids: [AllocId; 16],
@@ -61,6 +81,7 @@ pub struct Link {
     pub delay: u32,
     pub key: Key,
     pub owed: Queue,
+    pub profiles: Profiles,
 }
 
 fn blank_answer() -> Owed
@@ -239,6 +260,52 @@ impl Key {
     }
 }
 
+// The index of a burst profile has two bits (8.1.2.6).
+fn index(i: u8) -> usize
+    ensures { λ r. ⌜ r ≡ profileIndex i ⌝ }
+{
+    (i % PROFILES) as usize
+}
+
+fn received(parity: bool) -> Profile
+    ensures { λ r. ⌜ r ≡ received parity ⌝ }
+{
+    if parity {
+        return Profile { parity: Parity::On };
+    }
+    Profile {
+        parity: Parity::Off,
+    }
+}
+
+impl Profiles {
+    pub fn none() -> Profiles
+        ensures { λ r. ⌜ r ≡ noProfiles ⌝ }
+    {
+        let none = Profile {
+            parity: Parity::NotReceived,
+        };
+        Profiles { held: [none; 4] }
+    }
+
+    pub fn at(self, i: u8) -> Profile
+        ensures { λ r. ⌜ r ≡ profileAt self i ⌝ }
+    {
+        let k = index(i);
+        let found = self.held[k];
+        found
+    }
+
+    pub fn set(self, i: u8, parity: bool) -> Profiles
+        ensures { λ r. ⌜ r ≡ setProfile self i parity ⌝ }
+    {
+        let k = index(i);
+        let mut next = self;
+        next.held[k] = received(parity);
+        next
+    }
+}
+
 impl Link {
     pub fn nothing() -> Link
         ensures { λ r. ⌜ r ≡ nothing ⌝ }
@@ -247,12 +314,14 @@ impl Link {
         let allocs = Allocs::none();
         let key = Key::none();
         let owed = Queue::none();
+        let profiles = Profiles::none();
         Link {
             onu: onu,
             allocs: allocs,
             delay: 0,
             key: key,
             owed: owed,
+            profiles: profiles,
         }
     }
 
@@ -288,6 +357,13 @@ impl Link {
         ensures { λ r. ⌜ r ≡ withOwed self owed ⌝ }
     {
         self.owed = owed;
+        self
+    }
+
+    pub fn with_profiles(mut self, profiles: Profiles) -> Link
+        ensures { λ r. ⌜ r ≡ withProfiles self profiles ⌝ }
+    {
+        self.profiles = profiles;
         self
     }
 }

@@ -1,7 +1,7 @@
 -- What a downstream message says: clause 11.3.3, as far as document 01 uses it.
 -- Assumes nothing.
 use Prim.Native.Nat.{ℕ, _+_, _-_, _/_, _%_}
-use mathlib.Core.Bool.{cond}
+use mathlib.Core.Bool.{Bool, cond}
 use mathlib.Core.List.{List}
 use lib.ListN.{length}
 use lib.Dec.{eqb, ltb}
@@ -29,6 +29,13 @@ serialAt m i = record { vendor = at32 m i; vssn = at32 m (i + 4) }
 abbrev pub serialFrom : List ℕ → ℕ → SerialNumber
 serialFrom m n = serialAt m (n - 1)
 
+-- 11.3.3.1: the two low bits of octet 5, the lowest of octet 6
+abbrev pub profileIndex : ℕ → ℕ
+profileIndex o = o % 4
+
+abbrev pub fecOn : ℕ → Bool
+fecOn o = eqb (o % 2) 1
+
 -- 11.3.3.3: bit P of octet 5 says absolute; bit S, where it is relative, says which way
 abbrev pub adjustmentOf : ℕ → Adjustment
 adjustmentOf o = cond (eqb (o % 2) 1) Absolute (cond (eqb (o / 2 % 2) 1) Subtract Add)
@@ -53,7 +60,7 @@ allocIn m = record { 0 = number16 m 5 % 16384 }
 -- Table 11-2: the downstream message types
 unfoldable pub contentAs : ℕ → List ℕ → Content
 contentAs type m =
-    cond (eqb type profile) Profile
+    cond (eqb type profile) (Profile (profileIndex (octet m 5)) (fecOn (octet m 6)))
     (cond (eqb type assignOnuId) (AssignOnuId (onuIn m) (serialFrom m 7))
     (cond (eqb type rangingTime) (RangingTime (adjustmentOf (octet m 5)) (number32 m 6))
     (cond (eqb type deactivateOnuId) DeactivateOnuId
@@ -69,7 +76,7 @@ contentOf m = contentAs (typeOf m) m
 
 -- the type of what is said
 abbrev pub typeCode : Content → ℕ
-typeCode Profile = profile
+typeCode (Profile index fec) = profile
 typeCode (AssignOnuId onu serial) = assignOnuId
 typeCode (RangingTime way delay) = rangingTime
 typeCode DeactivateOnuId = deactivateOnuId

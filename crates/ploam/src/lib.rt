@@ -66,7 +66,8 @@ pub enum AllocChange {
 
 // What a downstream message says: Table 11-2. A type that the table does not have is Unknown.
 pub enum Content {
-    Profile,
+    // the index, and whether FEC is on
+    Profile(u8, bool),
     AssignOnuId(OnuId, SerialNumber),
     RangingTime(Adjustment, u32),
     DeactivateOnuId,

@@ -4,7 +4,7 @@ ghost use mathlib.Core.Path.{_≡_};
 ghost use Prim.Native.Nat.{_+_, _≤_};
 ghost use lib.ListN.{length};
 ghost use Rattle.ploam.specs.Layout.{messageOctets, at16, at32, addressBy};
-ghost use Rattle.ploam.specs.Reading.{serialAt, adjustmentOf, switchOf, changeOf, onuIn, allocIn, contentOf, received};
+ghost use Rattle.ploam.specs.Reading.{serialAt, profileIndex, fecOn, adjustmentOf, switchOf, changeOf, onuIn, allocIn, contentOf, received};
 use super::ASSIGN_ALLOC_ID;
 use super::ASSIGN_ONU_ID;
 use super::Adjustment;
@@ -80,6 +80,18 @@ fn alloc_in(m: &[u8]) -> AllocId
     AllocId(number16(m, 4) % 16384)
 }
 
+fn profile_index(o: u8) -> u8
+    ensures { λ r. ⌜ r ≡ profileIndex o ⌝ }
+{
+    o % 4
+}
+
+fn fec_on(o: u8) -> bool
+    ensures { λ r. ⌜ r ≡ fecOn o ⌝ }
+{
+    o % 2 == 1
+}
+
 fn adjustment(o: u8) -> Adjustment
     ensures { λ r. ⌜ r ≡ adjustmentOf o ⌝ }
 {
@@ -120,7 +132,7 @@ fn content(m: &[u8]) -> Content
 {
     let kind = m[2];
     match kind {
-        PROFILE => Content::Profile,
+        PROFILE => Content::Profile(profile_index(m[4]), fec_on(m[5])),
         ASSIGN_ONU_ID => Content::AssignOnuId(onu_in(m), serial_at(m, 6)),
         RANGING_TIME => Content::RangingTime(adjustment(m[4]), number32(m, 5)),
         DEACTIVATE_ONU_ID => Content::DeactivateOnuId,

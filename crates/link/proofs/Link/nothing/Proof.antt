@@ -16,9 +16,12 @@ none-requires-2 c κs = search needs
 none-requires-3 : tie.Need-none-requires-3
 none-requires-3 c κs = search needs
 
+none-requires-4 : tie.Need-none-requires-4
+none-requires-4 c κs = search needs
+
 returns : tie.Need-returns
 returns c = cc
 
 pub nothing-spec : {M : Type 1} → statement M
 nothing-spec =
-    tie.close (tie.spec broadcast-requires none-requires none-requires-2 none-requires-3 returns)
+    tie.close (tie.spec broadcast-requires none-requires none-requires-2 none-requires-3 none-requires-4 returns)

@@ -5,7 +5,7 @@ use Prim.Native.Nat.{ℕ}
 use denote.Ref.{now}
 use Rattle.ploam.specs.Layout.{typeOf}
 use Rattle.ploam.specs.Reading.{contentAs}
-use Rattle.ploam.specs.declared.Content.the-variants.{AssignOnuId, RangingTime, DisableSerialNumber, AssignAllocId}
+use Rattle.ploam.specs.declared.Content.the-variants.{Profile, AssignOnuId, RangingTime, DisableSerialNumber, AssignAllocId}
 use Rattle.ploam.proofs.Types.{unknown}
 use borrow.Author.Needs.{needs}
 use Rattle.ploam.proofs.reading.content.Statement.{statement}
@@ -13,6 +13,18 @@ use Rattle.ploam.proofs.reading.content.Tie as tie
 
 shared-slice-read-kind : tie.Need-shared-slice-read-kind
 shared-slice-read-kind c = search needs
+
+shared-slice-read-profile-index : tie.Need-shared-slice-read-profile-index
+shared-slice-read-profile-index c = search needs
+
+profile-index-requires : tie.Need-profile-index-requires
+profile-index-requires c κs = search needs
+
+shared-slice-read-fec-on : tie.Need-shared-slice-read-fec-on
+shared-slice-read-fec-on c = search needs
+
+fec-on-requires : tie.Need-fec-on-requires
+fec-on-requires c κs = search needs
 
 onu-in-requires : tie.Need-onu-in-requires
 onu-in-requires c κs = search needs
@@ -49,7 +61,10 @@ change-requires c κs = search needs
 
 returns : tie.Need-returns
 unfolding contentAs
-returns c = sym (ap (λ (k : ℕ). contentAs k (now (c .before .before .before .args .m))) (c .match .keys1))
+returns c =
+    let at = c .before .before .before .before in
+    ap₂ Profile (c .before .before .profile-index .ensures) (c .fec-on .ensures)
+    ∙ sym (ap (λ (k : ℕ). contentAs k (now (at .before .before .before .args .m))) (at .match .keys1))
 
 returns-2 : tie.Need-returns-2
 unfolding contentAs
@@ -107,6 +122,10 @@ content-spec =
     tie.close
     (tie.spec
     shared-slice-read-kind
+    shared-slice-read-profile-index
+    profile-index-requires
+    shared-slice-read-fec-on
+    fec-on-requires
     onu-in-requires
     serial-at-requires
     shared-slice-read-adjustment
