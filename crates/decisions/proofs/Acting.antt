@@ -7,7 +7,7 @@ use Rattle.station.specs.declared.Station.{Station}
 use Rattle.link.specs.declared.Key.{Key}
 use Rattle.link.specs.Link.{noKey}
 use Rattle.effects.specs.declared.Change.{Change}
-use Rattle.effects.specs.declared.Change.the-variants.{Keep, Identify, Range, Delay, AddAlloc, RemoveAlloc, Enter}
+use Rattle.effects.specs.declared.Change.the-variants.{Keep, Identify, Range, Delay, AddAlloc, RemoveAlloc, SetProfile, Enter}
 use Rattle.effects.specs.declared.Debt.{Debt}
 use Rattle.effects.specs.declared.Debt.the-variants.{Free, Owes}
 use Rattle.effects.specs.declared.Effect.{Effect}
@@ -42,6 +42,7 @@ ignored-is (Range delay) d e = absurd (false≢true e)
 ignored-is (Delay delay) d e = absurd (false≢true e)
 ignored-is (AddAlloc id) d e = absurd (false≢true e)
 ignored-is (RemoveAlloc id) d e = absurd (false≢true e)
+ignored-is (SetProfile index parity) d e = absurd (false≢true e)
 ignored-is (Enter a) d e = absurd (false≢true e)
 
 nothing-done : (s : Station) → applied s ignored ≡ s
@@ -70,6 +71,7 @@ module _ (Q : Key → Type 0) (none : Q noKey) where
   change-key s (Delay delay) q = q
   change-key s (AddAlloc id) q = q
   change-key s (RemoveAlloc id) q = q
+  change-key s (SetProfile index parity) q = q
   change-key s (Enter a) q = none
 
   debt-key : (s : Station) (d : Debt) → Q (s .link .key) → Q (applyDebt s d .link .key)

@@ -23,7 +23,7 @@ use Rattle.station.specs.declared.Activation.the-variants.{Initial, SerialNumbe
 use Rattle.station.specs.declared.Station.{Station}
 use Rattle.station.specs.States.{stateNumber, holdsIdentity, o23, o4, o5, o7}
 use Rattle.effects.specs.declared.Change.{Change}
-use Rattle.effects.specs.declared.Change.the-variants.{Keep, Identify, Range, Delay, AddAlloc, RemoveAlloc, Enter}
+use Rattle.effects.specs.declared.Change.the-variants.{Keep, Identify, Range, Delay, AddAlloc, RemoveAlloc, SetProfile, Enter}
 use Rattle.effects.specs.declared.Debt.{Debt}
 use Rattle.effects.specs.declared.Debt.the-variants.{Free, Owes}
 use Rattle.effects.specs.declared.Effect.{Effect}
@@ -32,7 +32,7 @@ use Rattle.decisions.specs.declared.ranging.Target.the-variants.{To, Out
 use Rattle.effects.specs.Effects.{ignored, isIgnored}
 use Rattle.effects.specs.Changes.{identify, range, setDelay, applyChange, applyDebt, applied}
 use Rattle.decisions.specs.Ranging.{absolute, moved, answered, unanswered, rangingTime}
-use Rattle.decisions.specs.Decisions.{assignOnuId, allocChange, assignAllocId, requestRegistration, deactivate, switchOff, switchOn, switched, disable, unknownType}
+use Rattle.decisions.specs.Decisions.{profile, assignOnuId, allocChange, assignAllocId, requestRegistration, deactivate, switchOff, switchOn, switched, disable, unknownType}
 use Rattle.ids.specs.Places.{isHeld}
 use Rattle.decisions.specs.Decisions.{byContent, isBroadcast, isOurs, effectOf, room, decision}
 use Rattle.decisions.specs.Acts.{act}
@@ -65,6 +65,7 @@ entersResting (Range delay) = true
 entersResting (Delay delay) = true
 entersResting (AddAlloc id) = true
 entersResting (RemoveAlloc id) = true
+entersResting (SetProfile index parity) = true
 entersResting (Enter a) = resting a
 
 unfoldable Leads : Effect → Type 0
@@ -114,8 +115,12 @@ assign-leads state broadcast own onu =
     either Leads (broadcast && (eqb state o23 && (own && assignableOnu onu))) _ _ (leads (Identify onu) Free refl) nowhere
 
 content-leads : (s : Station) (broadcast : Bool) (seq : ℕ) (c : Content) → Leads (byContent s broadcast seq c)
-unfolding rangingTime deactivate disable requestRegistration assignAllocId unknownType
-content-leads s broadcast seq Profile = nowhere
+unfolding profile rangingTime deactivate disable requestRegistration assignAllocId unknownType
+content-leads s broadcast seq (Profile index parity) =
+    let state = stateNumber (s .activation) in
+    either Leads broadcast _ _
+    (either Leads (eqb state o23 || (eqb state o4 || eqb state o5)) _ _ (leads (SetProfile index parity) Free refl) nowhere)
+    (either Leads (eqb state o5) _ _ (leads (SetProfile index parity) _ refl) nowhere)
 content-leads s broadcast seq (AssignOnuId onu serial) = assign-leads (stateNumber (s .activation)) broadcast _ onu
 content-leads s broadcast seq (RangingTime way amount) =
     let state = stateNumber (s .activation) in
@@ -146,6 +151,7 @@ staysResting (Range delay) = false
 staysResting (Delay delay) = true
 staysResting (AddAlloc id) = true
 staysResting (RemoveAlloc id) = true
+staysResting (SetProfile index parity) = true
 staysResting (Enter a) = resting a
 
 unfoldable Stays : Effect → Type 0
@@ -171,8 +177,8 @@ no-other EmergencyStop r = (refl, refl, refl, refl)
 
 module _ (s : Station) (r : resting (s .activation) ≡ true) where
   directed-ignored : (seq : ℕ) (c : Content) → byContent s false seq c ≡ ignored
-  unfolding assignOnuId rangingTime deactivate disable requestRegistration assignAllocId unknownType
-  directed-ignored seq Profile = refl
+  unfolding profile assignOnuId rangingTime deactivate disable requestRegistration assignAllocId unknownType
+  directed-ignored seq (Profile index parity) = rw (no-other (s .activation) r .2)
   directed-ignored seq (AssignOnuId onu serial) = refl
   directed-ignored seq (RangingTime way amount) = rw (no-other (s .activation) r .2, no-other (s .activation) r .1)
   directed-ignored seq DeactivateOnuId = rw (no-other (s .activation) r .3)
@@ -199,8 +205,8 @@ module _ (s : Station) (r : resting (s .activation) ≡ true) where
   switched-stays own OtherSwitch = still
 
   broadcast-stays : (seq : ℕ) (c : Content) → Stays (byContent s true seq c)
-  unfolding assignOnuId rangingTime deactivate disable requestRegistration assignAllocId unknownType
-  broadcast-stays seq Profile = still
+  unfolding profile assignOnuId rangingTime deactivate disable requestRegistration assignAllocId unknownType
+  broadcast-stays seq (Profile index parity) = rw (no-other (s .activation) r .0, no-other (s .activation) r .1, no-other (s .activation) r .2) still
   broadcast-stays seq (AssignOnuId onu serial) = rw (no-other (s .activation) r .0) still
   broadcast-stays seq (RangingTime way amount) = rw (no-other (s .activation) r .2) still
   broadcast-stays seq DeactivateOnuId = rw (no-other (s .activation) r .3) still
@@ -235,6 +241,7 @@ change-forgets s (Range delay) e = inl refl
 change-forgets s (Delay delay) e = inl refl
 change-forgets s (AddAlloc id) e = inl refl
 change-forgets s (RemoveAlloc id) e = inl refl
+change-forgets s (SetProfile index parity) e = inl refl
 change-forgets s (Enter a) e = inr e
 
 change-stays : (s : Station) (c : Change) → staysResting c ≡ true → resting (s .activation) ≡ true → resting (applyChange s c .activation) ≡ true
@@ -245,6 +252,7 @@ change-stays s (Range delay) e r = absurd (false≢true e)
 change-stays s (Delay delay) e r = r
 change-stays s (AddAlloc id) e r = r
 change-stays s (RemoveAlloc id) e r = r
+change-stays s (SetProfile index parity) e r = r
 change-stays s (Enter a) e r = e
 
 -- the key that was held is held, or the station rests

@@ -53,6 +53,18 @@ with-link-requires-2 c κs = search needs
 enum-known-change-6 : tie.Need-enum-known-change-6
 enum-known-change-6 c = search needs
 
+set-requires : tie.Need-set-requires
+set-requires c κs = search needs
+
+with-profiles-requires : tie.Need-with-profiles-requires
+with-profiles-requires c κs = search needs
+
+with-link-requires-3 : tie.Need-with-link-requires-3
+with-link-requires-3 c κs = search needs
+
+enum-known-change-7 : tie.Need-enum-known-change-7
+enum-known-change-7 c = search needs
+
 enter-requires : tie.Need-enter-requires
 enter-requires c κs = search needs
 
@@ -75,7 +87,11 @@ returns-6 : tie.Need-returns-6
 returns-6 c = rw (c .before .before .before .before .change5 .given .1) (c .with-link2 .ensures ∙ rw (c .before .with-allocs2 .ensures, c .before .before .remove .ensures))
 
 returns-7 : tie.Need-returns-7
-returns-7 c = rw (c .before .before .change6 .given .1) (c .enter .ensures)
+returns-7 c =
+    rw (c .before .before .before .before .before .change6 .given .1) (c .with-link3 .ensures ∙ rw (c .before .with-profiles .ensures, c .before .before .set .ensures))
+
+returns-8 : tie.Need-returns-8
+returns-8 c = rw (c .before .before .change7 .given .1) (c .enter .ensures)
 
 pub apply-change-spec : {M : Type 1} → statement M
 apply-change-spec =
@@ -97,6 +113,10 @@ apply-change-spec =
     with-allocs-requires-2
     with-link-requires-2
     enum-known-change-6
+    set-requires
+    with-profiles-requires
+    with-link-requires-3
+    enum-known-change-7
     enter-requires
     returns
     returns-2
@@ -104,4 +124,5 @@ apply-change-spec =
     returns-4
     returns-5
     returns-6
-    returns-7)
+    returns-7
+    returns-8)
