@@ -7,7 +7,7 @@ use Rattle.station.specs.Station.{withLink}
 use Rattle.link.specs.Link.{withDelay}
 use Rattle.effects.specs.declared.Effect.{Effect}
 use Rattle.effects.specs.declared.Change.{Change}
-use Rattle.effects.specs.declared.Change.the-variants.{Keep, Identify, Range, Delay as Delays, AddAlloc, RemoveAlloc, Enter}
+use Rattle.effects.specs.declared.Change.the-variants.{Keep, Identify, Range, Delay as Delays, AddAlloc, RemoveAlloc, SetProfile, Enter}
 use Rattle.effects.specs.declared.Debt.{Debt}
 use Rattle.effects.specs.declared.Debt.the-variants.{Free, Owes}
 use Rattle.effects.specs.Changes.{setDelay, applyChange, applyDebt, applied}
@@ -26,6 +26,7 @@ stays s e h = go (e .change) (e .debt) h
     go (Delays delay) Free h = cc
     go (AddAlloc id) Free h = cc
     go (RemoveAlloc id) Free h = cc
+    go (SetProfile index parity) Free h = cc
     go (Enter a) Free h = cc
     go x (Owes answer) h = cc
 
@@ -40,5 +41,6 @@ delays s e delay h = go (e .change) (e .debt) h
     go (Delays n) Free h = let e : n ≡ delay = cc in ap (λ (k : ℕ). withLink s (withDelay (s .link) k)) e
     go (AddAlloc id) Free h = cc
     go (RemoveAlloc id) Free h = cc
+    go (SetProfile index parity) Free h = cc
     go (Enter a) Free h = cc
     go x (Owes answer) h = cc

@@ -29,14 +29,14 @@ use Rattle.station.specs.States.{stateNumber, o4, o5}
 use Rattle.link.specs.Link.{allocPlace}
 use Rattle.link.specs.Limits.{addedAllocs}
 use Rattle.effects.specs.declared.Change.{Change}
-use Rattle.effects.specs.declared.Change.the-variants.{Keep, Range, AddAlloc, RemoveAlloc}
+use Rattle.effects.specs.declared.Change.the-variants.{Keep, Range, AddAlloc, RemoveAlloc, SetProfile}
 use Rattle.effects.specs.declared.Effect.{Effect}
 use Rattle.decisions.specs.declared.ranging.Target.{Target}
 use Rattle.decisions.specs.declared.ranging.Target.the-variants.{To, Outside}
 use Rattle.effects.specs.Effects.{ignored, owes, isIgnored}
 use Rattle.decisions.specs.Ranging.{absolute, moved, answered, rangingTime}
 use Rattle.ids.specs.Places.{isHeld}
-use Rattle.decisions.specs.Decisions.{assignOnuId, allocChange, assignAllocId, requestRegistration, disable, unknownType}
+use Rattle.decisions.specs.Decisions.{profile, assignOnuId, allocChange, assignAllocId, requestRegistration, disable, unknownType}
 use Rattle.decisions.specs.Decisions.{byContent, isBroadcast, isOurs, effectOf, fitting, decision}
 use Rattle.decisions.specs.Acts.{act}
 use Rattle.decisions.proofs.Acting.{act-ignored}
@@ -47,7 +47,7 @@ use Rattle.messages.proofs.Receiving.{each-turn}
 -- ---- what is directed owes an answer or does nothing, all but Deactivate_ONU-ID
 
 abbrev deactivates : Content → Bool
-deactivates Profile = false
+deactivates (Profile index parity) = false
 deactivates (AssignOnuId onu serial) = false
 deactivates (RangingTime way amount) = false
 deactivates DeactivateOnuId = true
@@ -88,8 +88,9 @@ module _ (q : Queue) (h : fullOf q ≡ true) where
   alloc-refused allocs seq id OtherChange = no-room Keep (Acknowledgement ParameterError) seq
 
   directed-refused : (s : Station) (seq : ℕ) (c : Content) → deactivates c ≡ false → Refused q (byContent s false seq c)
-  unfolding assignOnuId rangingTime disable requestRegistration assignAllocId unknownType
-  directed-refused s seq Profile e = nothing q
+  unfolding profile assignOnuId rangingTime disable requestRegistration assignAllocId unknownType
+  directed-refused s seq (Profile index parity) e =
+      either q (eqb (stateNumber (s .activation)) o5) _ _ (no-room (SetProfile index parity) (Acknowledgement Ok) seq) (nothing q)
   directed-refused s seq (AssignOnuId onu serial) e = nothing q
   directed-refused s seq (RangingTime way amount) e =
       let state = stateNumber (s .activation) in

@@ -1,7 +1,7 @@
 -- What an effect asks of the state.
 -- Assumes nothing.
 use Rattle.effects.specs.declared.Change.{Change}
-use Rattle.effects.specs.declared.Change.the-variants.{Keep, Identify, Range, Delay as Delays, AddAlloc, RemoveAlloc, Enter}
+use Rattle.effects.specs.declared.Change.the-variants.{Keep, Identify, Range, Delay as Delays, AddAlloc, RemoveAlloc, SetProfile, Enter}
 use Rattle.effects.specs.declared.Debt.{Debt}
 use Rattle.effects.specs.declared.Debt.the-variants.{Free, Owes}
 use Rattle.messages.specs.declared.Asked.{Asked}
@@ -15,6 +15,7 @@ alone (Range delay) = More
 alone (Delays delay) = Delay delay
 alone (AddAlloc id) = More
 alone (RemoveAlloc id) = More
+alone (SetProfile index parity) = More
 alone (Enter a) = More
 
 abbrev pub askedOf : Change → Debt → Asked

@@ -105,6 +105,7 @@ fn asked_by(e: Effect) -> Asked
             Change::Delay(delay) => Asked::Delay(delay),
             Change::AddAlloc(_) => Asked::More,
             Change::RemoveAlloc(_) => Asked::More,
+            Change::SetProfile(_, _) => Asked::More,
             Change::Enter(_) => Asked::More,
         },
         Debt::Owes(_) => Asked::More,
