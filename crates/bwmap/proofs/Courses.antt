@@ -25,11 +25,12 @@ use Rattle.station.specs.States.{silent}
 use Rattle.series.specs.Limits.{entriesABurst}
 use Rattle.series.specs.declared.Around.{Around}
 use Rattle.series.specs.declared.Open.{Open}
-use Rattle.series.specs.Series.{entryAt, entryCount, standingsFrom, run, seriesAt, grants, wordsOf, endOf, outset, judged, verdictOf}
+use Rattle.series.specs.Series.{entryAt, entryCount, standingsFrom, run, seriesAt, grants, wordsOf, endOf, outset, beyond, judged, verdictOf}
 use Rattle.series.specs.Opens.{closed, opened, joined, goesOn, Modest}
+use Rattle.series.proofs.Judged.{planned-facts}
 use Rattle.series.proofs.Opens.{goes-on-facts, full-or-none, closed-modest, more-words}
 use Rattle.bwmap.specs.Turns.{rest}
-use Rattle.bwmap.specs.Verdicts.{Role, alone, roles, verdictsOf, verdicts}
+use Rattle.bwmap.specs.Verdicts.{Role, alone, joins, roles, verdictsOf, verdicts}
 use Rattle.bwmap.specs.Names.{nameNumbers, namesOf}
 use Rattle.bwmap.specs.Courses.{left, past, excess, behind, ended, told, toTell, namedFrom, Steady}
 use Rattle.bwmap.specs.declared.names.Course.{Course}
@@ -79,19 +80,26 @@ length-verdicts : (around : Around) (v : Verdict) (k : ℕ) (l : List Standing) 
 length-verdicts around v k [] = refl
 length-verdicts around v k (Apart x ∷ l) = ap suc (length-verdicts around v 0 l)
 length-verdicts around v k (Head a ∷ l) =
-    ap suc (go (isPlanned (verdictOf around (seriesAt a l))) (length-verdicts (record { end = endOf (seriesAt a l); bursts = around .bursts + 1 }) (verdictOf around (seriesAt a l)) 1 l) (length-verdicts around (verdictOf around (seriesAt a l)) 1 l))
+    let u = verdictOf around (seriesAt a l) in
+    ap suc (go (isPlanned u) (verdictsOf (beyond around (seriesAt a l)) u (roles 1 l)) (verdictsOf around u (roles 1 l)) (length-verdicts (beyond around (seriesAt a l)) u 1 l) (length-verdicts around u 1 l))
   where
-    go : {x y : List Verdict} (b : Bool) → length (nameNumbers x) ≡ length l → length (nameNumbers y) ≡ length l → length (nameNumbers (cond b x y)) ≡ length l
-    go true p q = p
-    go false p q = q
+    go : (b : Bool) (x y : List Verdict) → length (nameNumbers x) ≡ length l → length (nameNumbers y) ≡ length l → length (nameNumbers (cond b x y)) ≡ length l
+    go true x y p q = p
+    go false x y p q = q
 length-verdicts around v zero (More a ∷ l) = ap suc (length-verdicts around v 0 l)
 length-verdicts around v (suc k) (More a ∷ l) = go (ltb (suc k) entriesABurst) (length-verdicts around v (suc (suc k)) l) (length-verdicts around v 0 l)
   where
     go
-        : {x y : List Role} (b : Bool) → length (nameNumbers (verdictsOf around v x)) ≡ length l → length (nameNumbers (verdictsOf around v y)) ≡ length l
-        → length (nameNumbers (verdictsOf around v (cond b (joins ∷ x) (alone Seventeenth ∷ y)))) ≡ suc (length l)
+        : (b : Bool) → length (nameNumbers (verdictsOf around v (roles (suc (suc k)) l))) ≡ length l → length (nameNumbers (verdictsOf around v (roles 0 l))) ≡ length l
+        → length (nameNumbers (verdictsOf around v (cond b (joins ∷ roles (suc (suc k)) l) (alone Seventeenth ∷ roles 0 l)))) ≡ suc (length l)
     go true p q = ap suc p
     go false p q = ap suc q
+
+pub excess-open : (k : ℕ) → 0 < k → nameNumber (excess k) ≡ nameNumber Seventeenth
+excess-open zero h =
+    let z : ⊥ = omega arith in
+    absurd z
+excess-open (suc k) h = refl
 
 -- an entry of ours that continues and goes no series on stands by itself
 unjoined : (k : ℕ) (a : Allocation) (l : List Standing) → (0 < k → 15 < k) → roles k (More a ∷ l) ≡ alone (excess k) ∷ roles 0 l
@@ -110,13 +118,15 @@ left-full (suc k) l h =
 opening
     : (around : Around) (k : ℕ) (v : Verdict) (a : Allocation) (l : List Standing)
     → verdictsOf around v (roles k (Head a ∷ l)) ≡ told around 1 (verdictOf around (seriesAt a l)) (endOf (seriesAt a l)) l
-opening around k v a l = ap (λ (z : List Verdict). verdictOf around (seriesAt a l) ∷ z) (go (isPlanned (verdictOf around (seriesAt a l))))
+opening around k v a l =
+    ap (λ (z : List Verdict). verdictOf around (seriesAt a l) ∷ z) (go (isPlanned (verdictOf around (seriesAt a l))) (beyond around (seriesAt a l)) around)
   where
     go
-        : {x y : Around} {u : Verdict} {z : List Role} (b : Bool)
-        → cond b (verdictsOf x u z) (verdictsOf y u z) ≡ verdictsOf (cond b x y) u z
-    go true = refl
-    go false = refl
+        : (b : Bool) (x y : Around)
+        → cond b (verdictsOf x (verdictOf around (seriesAt a l)) (roles 1 l)) (verdictsOf y (verdictOf around (seriesAt a l)) (roles 1 l))
+        ≡ verdictsOf (cond b x y) (verdictOf around (seriesAt a l)) (roles 1 l)
+    go true x y = refl
+    go false x y = refl
 
 joining
     : (around : Around) (k start words : ℕ) (a : Allocation) (l : List Standing) → 0 < k → k ≤ 15
@@ -154,6 +164,30 @@ module _ (p : List ℕ) (i : ℕ) where
       let e : s .words ≡ s .words + grants (left (s .entries) l) = sym (ap (λ (z : List Allocation). s .words + grants z) stops ∙ add-zero (s .words)) in
       written-series (s .entries) (judged around (s .start) (s .words)) (verdictsOf (behind around s) (judged around (s .start) (s .words)) (roles (s .entries) l)) h
       ∙ ap (λ (z : ℕ). sets p (i - s .entries) (nameNumbers (told around (s .entries) (judged around (s .start) z) (s .start + z) l))) e
+
+-- ---- a series that ends, as the code judges it
+
+module _ (around : Around) (s : Open) (v : Verdict) (hv : v ≡ judged around (s .start) (s .words)) where
+  past-open : (k : ℕ) → 0 < k → past k around v (s .start + s .words) ≡ cond (isPlanned v) (record { end = s .start + s .words; bursts = around .bursts + 1 }) around
+  past-open zero h =
+      let z : ⊥ = omega arith in
+      absurd z
+  past-open (suc k) h = refl
+
+  behind-by : 0 < s .entries → behind around s ≡ cond (isPlanned v) (record { end = s .start + s .words; bursts = around .bursts + 1 }) around
+  behind-by h = ap (λ (z : Verdict). past (s .entries) around z (s .start + s .words)) (sym hv) ∙ past-open (s .entries) h
+
+  pub moved : 0 < s .entries → isPlanned v ≡ true → record { end = s .start + s .words; bursts = around .bursts + 1 } ≡ behind around s
+  moved h f = sym (behind-by h ∙ rw f)
+
+  pub unmoved : 0 < s .entries → isPlanned v ≡ false → around ≡ behind around s
+  unmoved h f = sym (behind-by h ∙ rw f)
+
+  pub few-before : isPlanned v ≡ true → around .bursts < 4
+  few-before f = planned-facts around (s .start) (s .words) (ap isPlanned (sym hv) ∙ f) .2
+
+  pub series-named : (p q : List ℕ) (i n : ℕ) → n ≡ nameNumber v → q ≡ sets p (i - s .entries) (replicate (s .entries) n) → q ≡ ended p i around s
+  series-named p q i n hn hq = hq ∙ ap (λ (z : ℕ). sets p (i - s .entries) (replicate (s .entries) z)) (hn ∙ ap nameNumber hv)
 
 -- ---- one entry further
 

@@ -68,8 +68,8 @@ fn name_alone(w: Course, names: &mut [u8], i: usize, name: u8) -> Course
     ensures { λ r. ⌜ (r ≡ record { around = behind (w .around) (w .series); series = closed }) × (now (names .exit) ≡ set (ended (now (names .entry)) i (w .around) (w .series)) i name) ⌝ }
 {
     let around = w.around;
-    let open = w.series;
-    let next = end_series(around, open, names, i);
+    let s = w.series;
+    let next = end_series(around, s, names, i);
     names[i] = name;
     Course {
         around: next,
@@ -94,23 +94,23 @@ fn name_entry(map: &[u8], own: Own, i: usize, w: Course, names: &mut [u8]) -> Co
     ensures { λ r. ⌜ Steady r (i + 1) × (namedFrom own (now (map .entry)) (now (names .exit)) (i + 1) r ≡ namedFrom own (now (map .entry)) (now (names .entry)) i w) ⌝ }
 {
     let around = w.around;
-    let open = w.series;
+    let s = w.series;
     match search::read_at(map, own, i) {
         Standing::Head(h) => {
-            let next = end_series(around, open, names, i);
+            let next = end_series(around, s, names, i);
             Course {
                 around: next,
                 series: series::opened(h),
             }
         }
         Standing::More(a) => {
-            if series::goes_on(open) {
+            if series::goes_on(s) {
                 return Course {
                     around: around,
-                    series: search::joined(open, a),
+                    series: search::joined(s, a),
                 };
             }
-            name_alone(w, names, i, excess(open))
+            name_alone(w, names, i, excess(s))
         }
         Standing::Apart(verdict) => name_alone(w, names, i, verdict.number()),
     }
@@ -135,6 +135,6 @@ pub(crate) fn name_entries(map: &[u8], own: Own, carried: u16, names: &mut [u8])
         i += 1;
     }
     let around = w.around;
-    let open = w.series;
-    end_series(around, open, names, i);
+    let s = w.series;
+    end_series(around, s, names, i);
 }
