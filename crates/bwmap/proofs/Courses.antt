@@ -6,7 +6,7 @@ use mathlib.Core.List.{List, [], _∷_, _++_}
 use mathlib.Core.Bool.{Bool, true, false, cond}
 use native.Mathlib.Omega.{arith}
 use native.Mathlib.Numerals.{add-one}
-use native.Mathlib.Nat.{add-zero, zero-add, sub-zero}
+use native.Mathlib.Nat.{add-zero, zero-add}
 use lib.Dec.{ltb}
 use lib.ListN.{length, drop, set, replicate, length-replicate}
 use lib.Seq.{sets, sets-eq}
@@ -30,7 +30,7 @@ use Rattle.series.specs.Opens.{closed, opened, joined, goesOn, Modest}
 use Rattle.series.proofs.Judged.{planned-facts}
 use Rattle.series.proofs.Opens.{goes-on-facts, full-or-none, closed-modest, more-words}
 use Rattle.bwmap.specs.Turns.{rest}
-use Rattle.bwmap.specs.Verdicts.{Role, alone, joins, roles, verdictsOf, verdicts}
+use Rattle.bwmap.specs.Verdicts.{Role, alone, joins, roles, verdictsOf}
 use Rattle.bwmap.specs.Names.{nameNumbers, namesOf}
 use Rattle.bwmap.specs.Courses.{left, past, excess, behind, ended, told, toTell, namedFrom, Steady}
 use Rattle.bwmap.specs.declared.names.Course.{Course}
@@ -269,9 +269,11 @@ module _ (own : Own) (m : List ℕ) where
       : (p : List ℕ) (w : Course) (carried end : ℕ) (s : Open) → w ≡ record { around = record { end = end; bursts = 0 }; series = s } → end ≡ carried → s ≡ closed
       → Steady w 0 × (namedFrom own m p 0 w ≡ sets p 0 (namesOf own m carried))
   from-outset p w carried end s hw he hs =
+      let e : entryCount m - 0 ≡ entryCount m = omega arith in
       rw (hw, he, hs) (
         record { small = closed-modest closed refl; lies = omega arith },
-        rw sub-zero (ap (λ (z : List Verdict). sets p 0 (nameNumbers z)) (stray (outset carried) _ ContinuingNothing (rest own m 0)) ∙ rw sub-zero),
+        ap (λ (z : List Verdict). sets p 0 (nameNumbers z)) (stray (outset carried) _ ContinuingNothing (rest own m 0))
+            ∙ ap (λ (k : ℕ). sets p 0 (nameNumbers (verdictsOf (outset carried) ContinuingNothing (roles 0 (standingsFrom own m 0 k))))) e,
       )
 
   -- and where it ends

@@ -1,8 +1,6 @@
 -- `bwmap::names::name_entry` meets its contract.
 -- Assumes nothing.
 use mathlib.Core.Path.{_∙_, refl, sym, ap}
-use mathlib.Core.List.{List}
-use Prim.Native.Nat.{ℕ}
 use lib.ListN.{set}
 use denote.Ref.{now}
 use Rattle.bwmap.specs.Courses.{ended}
