@@ -101,6 +101,12 @@ excess-open zero h =
     absurd z
 excess-open (suc k) h = refl
 
+pub excess-none : (k : ℕ) → k ≤ 0 → nameNumber (excess k) ≡ nameNumber ContinuingNothing
+excess-none zero h = refl
+excess-none (suc k) h =
+    let z : ⊥ = omega arith in
+    absurd z
+
 -- an entry of ours that continues and goes no series on stands by itself
 unjoined : (k : ℕ) (a : Allocation) (l : List Standing) → (0 < k → 15 < k) → roles k (More a ∷ l) ≡ alone (excess k) ∷ roles 0 l
 unjoined zero a l h = refl

@@ -82,10 +82,10 @@ fn name_alone(w: Course, names: &mut [u8], i: usize, name: u8) -> Course
 fn excess(s: Open) -> u8
     ensures { λ r. ⌜ r ≡ nameNumber (excess (s .entries)) ⌝ }
 {
-    if s.entries == 0 {
-        return entries::CONTINUING_NOTHING;
+    if 0 < s.entries {
+        return entries::SEVENTEENTH;
     }
-    entries::SEVENTEENTH
+    entries::CONTINUING_NOTHING
 }
 
 // The i-th entry. One that opens a series or goes it on has its name when the series ends.
