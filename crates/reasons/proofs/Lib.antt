@@ -1,0 +1,5 @@
+pub mod Belonging
+pub mod Whole
+pub mod Standing
+pub mod Before
+pub mod Runs
