@@ -3,3 +3,11 @@ pub mod Whole
 pub mod Standing
 pub mod Before
 pub mod Runs
+pub mod Firsts
+pub mod Alone
+pub mod Among
+pub mod Open
+pub mod Walked
+pub mod TrueNames
+pub mod Numbered
+pub mod Called

@@ -1,9 +1,9 @@
 -- The run behind a head is its whole series; it stops at the next head.
 -- Assumes nothing.
-use Prim.Native.Nat.{ℕ, zero, suc, _+_, _≤_, _<_}
-use mathlib.Core.Path.{_≡_, _∙_, refl, sym, ap}
+use Prim.Native.Nat.{ℕ, zero, suc, _+_, _<_}
+use mathlib.Core.Path.{_≡_, refl, ap}
 use mathlib.Core.Bool.{Bool, true, false}
-use mathlib.Core.List.{List, [], _∷_}
+use mathlib.Core.List.{List, _∷_}
 use native.Mathlib.Omega.{arith}
 use native.Mathlib.Numerals.{add-one}
 use lib.Dec.{ltb}
@@ -16,7 +16,7 @@ use Rattle.entries.specs.declared.Standing.the-variants.{Apart, Head, More}
 use Rattle.entries.specs.Standings.{standing}
 use Rattle.entries.proofs.Facts.{ours-is}
 use Rattle.series.specs.Limits.{moreABurst}
-use Rattle.series.specs.Series.{Series, entryAt, entryCount, standingsFrom, run, seriesAt}
+use Rattle.series.specs.Series.{entryAt, entryCount, standingsFrom, run, seriesAt}
 use Rattle.series.proofs.Runs.{run-nil, run-head, run-length}
 use Rattle.bwmap.proofs.Kept.{follow}
 use Rattle.reasons.specs.Facts.{OursAt, Belongs, SeriesAt}
@@ -68,16 +68,16 @@ module _ (own : Own) (m : List ℕ) where
 
   pub series-whole : (i n : ℕ) (a : Allocation) → suc i + n ≡ entryCount m → standing own (entryAt m i) ≡ Head a → SeriesAt own m i (seriesAt a (standingsFrom own m (suc i) n))
   series-whole i n a e p =
-      let few = run-length 15 (standingsFrom own m (suc i) n) .1 in
+      let few = run-length moreABurst (standingsFrom own m (suc i) n) .1 in
       record {
         head = ours-is own (entryAt m i) a false p;
-        more = rw (add-one i) (follow own m 15 (suc i) n (omega arith));
+        more = rw (add-one i) (follow own m moreABurst (suc i) n (omega arith));
         few = omega arith;
-        whole = λ b. go b (ltb (length (run 15 (standingsFrom own m (suc i) n))) 15) refl;
+        whole = λ b. go b (ltb (length (run moreABurst (standingsFrom own m (suc i) n))) moreABurst) refl;
       }
     where
-      go : Belongs own m i (i + length (run 15 (standingsFrom own m (suc i) n)) + 1) → (b : Bool) → ltb (length (run 15 (standingsFrom own m (suc i) n))) 15 ≡ b → ⊥
+      go : Belongs own m i (i + length (run moreABurst (standingsFrom own m (suc i) n)) + 1) → (b : Bool) → ltb (length (run moreABurst (standingsFrom own m (suc i) n))) moreABurst ≡ b → ⊥
       go x true q =
-          let z : i + length (run 15 (standingsFrom own m (suc i) n)) + 1 ≡ suc i + length (run 15 (standingsFrom own m (suc i) n)) = omega arith in
-          run-ends 15 (suc i) n e (ltb-true _ _ q) (rw z at (x .more (i + length (run 15 (standingsFrom own m (suc i) n)) + 1) (omega arith) (omega arith)))
-      go x false q = omega (arith, x .few, ltb-false (length (run 15 (standingsFrom own m (suc i) n))) 15 q)
+          let z : i + length (run moreABurst (standingsFrom own m (suc i) n)) + 1 ≡ suc i + length (run moreABurst (standingsFrom own m (suc i) n)) = omega arith in
+          run-ends moreABurst (suc i) n e (ltb-true _ _ q) (rw z at (x .more (i + length (run moreABurst (standingsFrom own m (suc i) n)) + 1) (omega arith) (omega arith)))
+      go x false q = omega (arith, x .few, ltb-false (length (run moreABurst (standingsFrom own m (suc i) n))) moreABurst q)

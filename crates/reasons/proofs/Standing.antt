@@ -1,7 +1,7 @@
 -- What an entry of a map is by itself: its standing, what was read of it, and whose it is.
 -- Assumes nothing.
-use Prim.Native.Nat.{ℕ, suc, _+_, _-_, _*_, _/_, _≤_, _<_}
-use mathlib.Core.Path.{_≡_, _∙_, refl, sym, ap}
+use Prim.Native.Nat.{ℕ, _*_, _≤_, _<_}
+use mathlib.Core.Path.{_≡_, _∙_, refl, sym}
 use mathlib.Core.Bool.{Bool, true, false, cond}
 use mathlib.Core.List.{List}
 use native.Mathlib.Omega.{arith}
@@ -17,8 +17,7 @@ use Rattle.xgem.specs.Reads.{Found, fields, short, taken}
 use Rattle.entries.specs.Limits.{structureOctets}
 use Rattle.entries.specs.declared.Own.{Own}
 use Rattle.entries.specs.declared.Verdict.{Verdict}
-use Rattle.entries.specs.declared.Standing.{Standing}
-use Rattle.entries.specs.declared.Standing.the-variants.{Apart, Head, More}
+use Rattle.entries.specs.declared.Standing.the-variants.{Apart}
 use Rattle.entries.specs.Standings.{sorted, standing, Mine}
 use Rattle.entries.proofs.Facts.{standsAs}
 use Rattle.series.specs.Series.{entryAt, entryCount}

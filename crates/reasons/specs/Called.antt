@@ -2,20 +2,29 @@
 -- plan's."
 -- Assumes nothing.
 use Prim.Native.Nat.{ℕ}
+use mathlib.Core.Path.{_≡_}
 use mathlib.Core.Bool.{cond}
 use mathlib.Core.List.{List, [], _∷_, _++_}
 use lib.Dec.{eqb}
 use Rattle.xgtc.specs.declared.allocation.Allocation.{Allocation}
 use Rattle.xgem.specs.Reads.{Found, fields, unreadable, short}
+use Rattle.entries.specs.declared.Own.{Own}
 use Rattle.entries.specs.declared.Verdict.{Verdict}
 use Rattle.entries.specs.declared.Verdict.the-variants.{Planned}
 use Rattle.entries.specs.Standings.{continues}
 use Rattle.entries.specs.Names.{nameNumber}
+use Rattle.series.specs.Series.{plannedOf}
 use Rattle.plan.specs.Records.{headFlags, moreFlags, planRecord}
+use Rattle.plan.specs.Plan.{numbers}
+use Rattle.bwmap.specs.Verdicts.{verdicts, entries}
 
 abbrev pub nameNumbers : List Verdict → List ℕ
 nameNumbers [] = []
 nameNumbers (v ∷ l) = nameNumber v ∷ nameNumbers l
+
+-- one name for each structure, in map order
+abbrev pub namesOf : Own → List ℕ → ℕ → List ℕ
+namesOf own m carried = nameNumbers (verdicts own m carried)
 
 -- what was read of the entries whose name is the number of "planned"
 abbrev pub calledPlanned : List ℕ → List (Found Allocation) → List Allocation
@@ -34,3 +43,7 @@ recordsUnder h (a ∷ l) =
 abbrev pub recordsCalled : List Allocation → List ℕ
 recordsCalled [] = []
 recordsCalled (a ∷ l) = recordsUnder a (a ∷ l)
+
+-- the names that are given as numbers lead to the plan, number by number
+abbrev pub CalledArePlans : (Own → List ℕ → ℕ → List ℕ) → Type 0
+CalledArePlans names = (own : Own) (m : List ℕ) (carried : ℕ) → recordsCalled (calledPlanned (names own m carried) (entries m)) ≡ numbers (plannedOf own m carried)
