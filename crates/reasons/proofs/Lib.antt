@@ -8,6 +8,7 @@ pub mod Alone
 pub mod Among
 pub mod Open
 pub mod Walked
+pub mod Every
 pub mod TrueNames
 pub mod Numbered
 pub mod Called
