@@ -9,22 +9,13 @@ use lib.Dec.{eqb}
 use Rattle.xgtc.specs.declared.allocation.Allocation.{Allocation}
 use Rattle.xgem.specs.Reads.{Found, fields, unreadable, short}
 use Rattle.entries.specs.declared.Own.{Own}
-use Rattle.entries.specs.declared.Verdict.{Verdict}
 use Rattle.entries.specs.declared.Verdict.the-variants.{Planned}
 use Rattle.entries.specs.Standings.{continues}
 use Rattle.entries.specs.Names.{nameNumber}
 use Rattle.series.specs.Series.{plannedOf}
 use Rattle.plan.specs.Records.{headFlags, moreFlags, planRecord}
 use Rattle.plan.specs.Plan.{numbers}
-use Rattle.bwmap.specs.Verdicts.{verdicts, entries}
-
-abbrev pub nameNumbers : List Verdict → List ℕ
-nameNumbers [] = []
-nameNumbers (v ∷ l) = nameNumber v ∷ nameNumbers l
-
--- one name for each structure, in map order
-abbrev pub namesOf : Own → List ℕ → ℕ → List ℕ
-namesOf own m carried = nameNumbers (verdicts own m carried)
+use Rattle.bwmap.specs.Verdicts.{entries}
 
 -- what was read of the entries whose name is the number of "planned"
 abbrev pub calledPlanned : List ℕ → List (Found Allocation) → List Allocation

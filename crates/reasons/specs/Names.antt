@@ -13,7 +13,7 @@ use Rattle.entries.specs.declared.Verdict.the-variants.{Silent}
 use Rattle.series.specs.Series.{entryCount}
 use Rattle.reasons.specs.Facts.{Fact, First, inOrder}
 
--- a way to name the structures of a map, whose station is `own` and which the frame before leaves so many words
+-- a way to name the structures of a map: by what is ours, the map as mended, and the words carried over
 abbrev pub Naming : Type 0
 Naming = Own → List ℕ → ℕ → List Verdict
 
