@@ -19,7 +19,7 @@ use Rattle.bwmap.specs.Promises.{Follow, SeriesIn, Every}
 use Rattle.bwmap.specs.Verdicts.{verdicts, entries, called, readable, entriesOf}
 use Rattle.bwmap.proofs.Kept.{planned-ours}
 use Rattle.bwmap.proofs.Called.{called-planned}
-use Rattle.reasons.specs.Numbers.{nameNumbers, namesOf}
+use Rattle.bwmap.specs.Names.{nameNumbers, namesOf}
 use Rattle.reasons.specs.Called.{calledPlanned, recordsUnder, recordsCalled, CalledArePlans}
 use Rattle.reasons.proofs.Standing.{clash}
 

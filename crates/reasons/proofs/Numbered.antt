@@ -13,7 +13,8 @@ use Rattle.entries.specs.Names.{nameNumber}
 use Rattle.series.specs.Series.{entryCount}
 use Rattle.bwmap.specs.Verdicts.{verdicts}
 use Rattle.reasons.specs.Names.{nameAt, TrueName}
-use Rattle.reasons.specs.Numbers.{nameNumbers, namesOf, TrueNumbers}
+use Rattle.bwmap.specs.Names.{nameNumbers, namesOf}
+use Rattle.reasons.specs.Numbers.{TrueNumbers}
 use Rattle.reasons.proofs.TrueNames.{true-names}
 
 -- the name of a number

@@ -3,23 +3,14 @@
 use Prim.Native.Nat.{ℕ, _<_}
 use mathlib.Core.Path.{_≡_}
 use mathlib.Core.Logic.{_↔_}
-use mathlib.Core.List.{List, [], _∷_}
+use mathlib.Core.List.{List}
 use lib.ListN.{length, getD}
 use Rattle.entries.specs.declared.Own.{Own}
 use Rattle.entries.specs.declared.Verdict.{Verdict}
 use Rattle.entries.specs.declared.Verdict.the-variants.{Silent}
 use Rattle.entries.specs.Names.{nameNumber}
 use Rattle.series.specs.Series.{entryCount}
-use Rattle.bwmap.specs.Verdicts.{verdicts}
 use Rattle.reasons.specs.Names.{TrueName}
-
-abbrev pub nameNumbers : List Verdict → List ℕ
-nameNumbers [] = []
-nameNumbers (v ∷ l) = nameNumber v ∷ nameNumbers l
-
--- one name for each structure, in map order
-abbrev pub namesOf : Own → List ℕ → ℕ → List ℕ
-namesOf own m carried = nameNumbers (verdicts own m carried)
 
 -- as TrueNames: a name's number is given exactly when it is the true one
 pub record TrueNumbers (names : Own → List ℕ → ℕ → List ℕ) : Type 0 where
