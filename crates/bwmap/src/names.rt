@@ -10,8 +10,9 @@ ghost use mathlib.Core.Path.{_≡_};
 ghost use lib.ListN.{length, replicate, set};
 ghost use lib.Seq.{sets};
 ghost use Rattle.xgem.specs.Writes.{put};
+ghost use Rattle.entries.specs.Standings.{standing};
 ghost use Rattle.entries.specs.Names.{nameNumber};
-ghost use Rattle.series.specs.Series.{entryCount};
+ghost use Rattle.series.specs.Series.{entryAt, entryCount};
 ghost use Rattle.series.specs.Opens.{closed, Modest};
 ghost use Rattle.bwmap.specs.Names.{namesOf};
 ghost use Rattle.bwmap.specs.Courses.{behind, ended, excess, namedFrom, Steady};
@@ -88,6 +89,15 @@ fn excess(s: Open) -> u8
     entries::CONTINUING_NOTHING
 }
 
+// The i-th entry of a map.
+fn read_at(map: &[u8], own: Own, i: usize) -> Standing
+    requires { ⌜ i < entryCount (now map) ⌝ }
+    ensures { λ r. ⌜ r ≡ standing own (entryAt (now (map .entry)) i) ⌝ }
+{
+    let at = STRUCTURE_OCTETS * i;
+    entries::naming::standing_ahead(own, &map[at..])
+}
+
 // The i-th entry. One that opens a series or goes it on has its name when the series ends.
 fn name_entry(map: &[u8], own: Own, i: usize, w: Course, names: &mut [u8]) -> Course
     requires { ⌜ (i < entryCount (now map)) × (entryCount (now map) ≤ length (now names)) × Steady w i ⌝ }
@@ -95,7 +105,7 @@ fn name_entry(map: &[u8], own: Own, i: usize, w: Course, names: &mut [u8]) -> Co
 {
     let around = w.around;
     let s = w.series;
-    match search::read_at(map, own, i) {
+    match read_at(map, own, i) {
         Standing::Head(h) => {
             let next = end_series(around, s, names, i);
             Course {
