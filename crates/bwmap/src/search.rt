@@ -26,7 +26,7 @@ pub(crate) fn long(x: u16) -> usize
 }
 
 // The i-th entry of a map.
-fn read_at(map: &[u8], own: Own, i: usize) -> Standing
+pub(crate) fn read_at(map: &[u8], own: Own, i: usize) -> Standing
     requires { ⌜ i < entryCount (now map) ⌝ }
     ensures { λ r. ⌜ r ≡ standing own (entryAt (now (map .entry)) i) ⌝ }
 {
@@ -34,7 +34,7 @@ fn read_at(map: &[u8], own: Own, i: usize) -> Standing
     own.standing_ahead(&map[at..])
 }
 
-fn joined(s: Open, a: Allocation) -> Open
+pub(crate) fn joined(s: Open, a: Allocation) -> Open
     requires { ⌜ Modest s × (goesOn s ≡ true) ⌝ }
     ensures { λ r. ⌜ (r ≡ joined s a) × Modest r ⌝ }
 {

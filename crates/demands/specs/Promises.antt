@@ -112,6 +112,37 @@ RepliesKept E =
     → drop (messageOctets * E .frame s a lent .counts .replies) (E .frame s a lent .lent .replies)
     ≡ drop (messageOctets * E .frame s a lent .counts .replies) (lent .replies)
 
+-- ---- "Why did it stay dark?"
+
+-- every structure of HLend's count has a name; "each name is given exactly when its fact holds and nothing earlier in this list applies",
+-- over the map as mended and the state in which the frame arrives
+pub record TrulyNamed (s : Station) (f : List ℕ) (left : NamesLeft) : Type 0 where
+  pub hlend : Hlend
+  pub reads : readHlend f ≡ fields hlend
+  pub count : left .found .count ≡ hlend .bwmap
+  pub some : (i : ℕ) → i < hlend .bwmap → Name (getD (left .names) i 0)
+  pub given : (i : ℕ) → i < hlend .bwmap → (v : Verdict) → getD (left .names) i 0 ≡ nameNumber v
+      → First (Fact (ownOf s) (mapOf hlend f) (s .carried) i) inOrder v
+  pub only : (i : ℕ) → i < hlend .bwmap → (v : Verdict) → First (Fact (ownOf s) (mapOf hlend f) (s .carried) i) inOrder v
+      → getD (left .names) i 0 ≡ nameNumber v
+  -- a state that sends nothing names all so
+  pub all-silent : silent (s .activation) ≡ true → take (hlend .bwmap) (left .names) ≡ replicate (hlend .bwmap) (nameNumber Silent)
+
+abbrev pub TrueNames : Engine → Type 0
+TrueNames E =
+    (s : Station) (f names : List ℕ) → answerNumber (E .whyDark s f names .found .answer) ≡ 0 → TrulyNamed s f (E .whyDark s f names)
+
+-- "The entries called planned are exactly the plan's": the records that the frame call leaves are those of the structures that are called
+-- planned, in map order
+abbrev pub PlannedNames : Engine → Type 0
+PlannedNames E =
+    (s : Station) (a : Arrival) (lent : Lent) (names : List ℕ) (h : Hlend)
+    → let left = E .frame s a lent in
+    let called = E .whyDark s (a .octets) names in
+    isDone (answerNumber (left .outcome .answer)) ≡ true → answerNumber (called .found .answer) ≡ 0 → readHlend (a .octets) ≡ fields h
+    → take (numbersARecord * left .counts .records) (left .lent .plan)
+    ≡ recordsOf (calledPlanned (take (called .found .count) (called .names)) (entries (mapOf h (a .octets))))
+
 -- ---- over any run from power-on
 
 -- at every call of every run the state is in range, so that none is answered 1

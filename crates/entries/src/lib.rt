@@ -14,6 +14,7 @@ ghost use lib.ListN.{take};
 ghost use Rattle.xgtc.specs.Reads.{readAllocation, foundAllocation};
 ghost use Rattle.ids.specs.Places.{some};
 ghost use Rattle.ids.specs.Ids.{sameAlloc};
+ghost use Rattle.entries.specs.Names.{nameNumber};
 ghost use Rattle.entries.specs.Standings.{isPlanned, startUnfit, noRoom, continues, held, discovery, ranging, ours, sorted, standing};
 
 // Octets of an allocation structure.
@@ -44,6 +45,29 @@ pub enum Verdict {
     Silent,
 }
 
+// The numbers of the names that the verdicts have where they are told.
+pub const PLANNED: u8 = 0;
+
+pub const UNREADABLE: u8 = 1;
+
+pub const START_TIME_UNFIT: u8 = 2;
+
+pub const DBRU_WITHOUT_ROOM: u8 = 3;
+
+pub const FOREIGN: u8 = 4;
+
+pub const CONTINUING_NOTHING: u8 = 5;
+
+pub const SEVENTEENTH: u8 = 6;
+
+pub const TOO_LONG: u8 = 7;
+
+pub const OVERLAPPING: u8 = 8;
+
+pub const AFTER_THE_LAST: u8 = 9;
+
+pub const SILENT: u8 = 10;
+
 // An entry by itself: apart from every series, for a reason; or of ours, a head or one that continues.
 pub enum Standing {
     Apart(Verdict),
@@ -67,6 +91,24 @@ impl Verdict {
             Verdict::Overlapping => false,
             Verdict::AfterTheLast => false,
             Verdict::Silent => false,
+        }
+    }
+
+    pub fn number(self) -> u8
+        ensures { λ r. ⌜ r ≡ nameNumber self ⌝ }
+    {
+        match self {
+            Verdict::Planned => PLANNED,
+            Verdict::Unreadable => UNREADABLE,
+            Verdict::StartTimeUnfit => START_TIME_UNFIT,
+            Verdict::DbruWithoutRoom => DBRU_WITHOUT_ROOM,
+            Verdict::Foreign => FOREIGN,
+            Verdict::ContinuingNothing => CONTINUING_NOTHING,
+            Verdict::Seventeenth => SEVENTEENTH,
+            Verdict::TooLong => TOO_LONG,
+            Verdict::Overlapping => OVERLAPPING,
+            Verdict::AfterTheLast => AFTER_THE_LAST,
+            Verdict::Silent => SILENT,
         }
     }
 }

@@ -1,12 +1,12 @@
--- `boundary::stretching::put_count` meets its contract.
+-- `boundary::counting::put_count` meets its contract.
 -- Assumes nothing.
 use denote.Ref.{now}
 use mathlib.Core.List.{[], _∷_}
 use native.Mathlib.Omega.{arith}
 use lib.Seq.{sets-eq}
 use borrow.Author.Needs.{needs}
-use Rattle.boundary.proofs.stretching.put_count.Statement.{statement}
-use Rattle.boundary.proofs.stretching.put_count.Tie as tie
+use Rattle.boundary.proofs.counting.put_count.Statement.{statement}
+use Rattle.boundary.proofs.counting.put_count.Tie as tie
 
 slice-write-counts : tie.Need-slice-write-counts
 slice-write-counts c = search needs
