@@ -5,10 +5,10 @@ use mathlib.Core.Bool.{Bool, true, false}
 use mathlib.Core.List.{List, [], _∷_, _++_, append-assoc}
 use Prim.Native.Nat.{ℕ, suc, _+_, min, max, _≤_, _<_}
 use native.Mathlib.Omega.{arith}
-use native.Mathlib.Nat.{add-zero}
+use native.Mathlib.Nat.{add-zero, zero-add}
 use lib.Dec.{leb}
 use lib.ListN.{length, take, drop, getD, set, length-append, drop-of-length-le}
-use lib.Seq.{sets, sets-eq, length-sets, set-out, drop-cons}
+use lib.Seq.{sets, sets-eq, length-sets, set-out, drop-cons, take-append-seam}
 use borrow.Author.Tests.{leb-true, leb-false}
 use Rattle.text.specs.Texts.{Added, added}
 
@@ -54,6 +54,17 @@ unfolding added
 added-next l at a b x y e f =
     f ∙ ap (λ z. added (z .text) (z .place) b) e ∙ (λ i. record { text = sets-next l at a b i; place = place-next l at a b i })
 
+pub added-three : (l : List ℕ) (at : ℕ) (a b c : List ℕ) (x y z : Added) → x ≡ added l at a → y ≡ added (x .text) (x .place) b
+    → z ≡ added (y .text) (y .place) c
+    → z ≡ added l at (a ++ b ++ c)
+added-three l at a b c x y z e f g = added-next l at (a ++ b) c y z (added-next l at a b x y e f) g
+
+pub added-four : (l : List ℕ) (at : ℕ) (a b c d : List ℕ) (w x y z : Added) → w ≡ added l at a → x ≡ added (w .text) (w .place) b
+    → y ≡ added (x .text) (x .place) c
+    → z ≡ added (y .text) (y .place) d
+    → z ≡ added l at (a ++ b ++ c ++ d)
+added-four l at a b c d w x y z e f g h = added-next l at (a ++ b ++ c) d y z (added-three l at a b c w x y e f g) h
+
 -- nothing put is nothing changed
 pub added-none : (x : Added) → x ≡ added (x .text) (x .place) []
 unfolding added
@@ -95,6 +106,17 @@ added-fits l at s h =
     sets-eq s l at h ∙ append-assoc (take at l) s (drop (at + length s) l) in
     let place : behind at (length s) (length l) ≡ at + length s = omega arith in
     λ i. record { text = text i; place = place i }
+
+-- what is put into the front of a text that has room for it is what stands there
+pub whole : (l s : List ℕ) (x : Added) → x ≡ added l 0 s → length s ≤ length l → (take (x .place) (x .text) ≡ s) × (x .place ≤ length (x .text))
+whole l s x e h =
+    let f : x ≡ record { text = s ++ drop (0 + length s) l; place = 0 + length s } = e ∙ added-fits l 0 s (omega arith) in
+    let p : x .place ≡ length s = ap (λ z. z .place) f ∙ zero-add (length s) in
+    let n : length (x .text) ≡ length l = ap (λ z. length (z .text)) e ∙ length-added l 0 s in
+    (
+      ap (λ z. take (z .place) (z .text)) f ∙ ap (λ k. take k (s ++ drop (0 + length s) l)) (zero-add (length s)) ∙ take-append-seam s (drop (0 + length s) l),
+      omega (arith, p, n),
+    )
 
 -- ---- a word, octet by octet
 

@@ -69,7 +69,8 @@ length-small n h = ap length (decimal-small n h)
 length-large : (n : ℕ) → 10 ≤ n → length (decimal n) ≡ length (decimal (n / 10)) + 1
 length-large n h = ap length (decimal-large n h) ∙ length-append (decimal (n / 10)) ((48 + n % 10) ∷ [])
 
-digits-within : (k n : ℕ) → n < 10 ^ suc k → length (decimal n) ≤ suc k
+-- as many digits as a power of ten has zeros hold every number below it
+pub digits-within : (k n : ℕ) → n < 10 ^ suc k → length (decimal n) ≤ suc k
 digits-within zero n h = omega (arith, length-small n h)
 digits-within (suc k) n h = go (ltb n 10) refl (digits-within k (n / 10))
   where
@@ -134,7 +135,7 @@ no-leading-zero n p = first-within (suc n) n (omega arith) p
 
 -- ---- a number and what ends it
 
-length-field : (n end : ℕ) → length (field n end) ≡ length (decimal n) + 1
+pub length-field : (n end : ℕ) → length (field n end) ≡ length (decimal n) + 1
 unfolding field
 length-field n end = length-append (decimal n) (end ∷ [])
 
