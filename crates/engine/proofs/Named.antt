@@ -6,7 +6,8 @@ use mathlib.Core.Path.{_≡_, _∙_, refl, sym, ap, subst}
 use mathlib.Core.Bool.{Bool, true, false, cond, true≢false}
 use mathlib.Core.List.{List}
 use lib.Dec.{leb}
-use lib.ListN.{length, take, drop, length-take, length-drop}
+use lib.ListN.{length, take, drop, length-drop}
+use lib.Seq.{length-take-le}
 use borrow.Author.Tests.{le-leb}
 use Rattle.hec.specs.Reads.{Reading, word, reading}
 use Rattle.hec.specs.Reads as hec
@@ -47,7 +48,7 @@ hlend-count f h e = subst (λ (n : ℕ). n ≤ mostStructures) (ap counted e) (g
 pub map-count : (h : Hlend) (f : List ℕ) → headerEnd h ≤ length f → entryCount (mapOf h f) ≡ h .bwmap
 map-count h f e =
     let room : structureOctets * h .bwmap ≤ length (drop hlendOctets f) = omega (arith, e, length-drop hlendOctets f) in
-    let is : length (mapOf h f) ≡ structureOctets * h .bwmap = length-take (structureOctets * h .bwmap) (drop hlendOctets f) room in
+    let is : length (mapOf h f) ≡ structureOctets * h .bwmap = length-take-le (structureOctets * h .bwmap) (drop hlendOctets f) room in
     omega (arith, is)
 
 -- ---- what the walk answers
