@@ -112,8 +112,7 @@ pub whole : (l s : List ℕ) (x : Added) → x ≡ added l 0 s → length s ≤ 
 whole l s x e h =
     let f : x ≡ record { text = s ++ drop (0 + length s) l; place = 0 + length s } = e ∙ added-fits l 0 s (omega arith) in
     let p : x .place ≡ length s = ap (λ z. z .place) f ∙ zero-add (length s) in
-    let n : length (x .text) ≡ length l = ap (λ z. length (z .text)) e ∙ length-added l 0 s in
-    (
+    let n : length (x .text) ≡ length l = ap (λ z. length (z .text)) e ∙ length-added l 0 s in (
       ap (λ z. take (z .place) (z .text)) f ∙ ap (λ k. take k (s ++ drop (0 + length s) l)) (zero-add (length s)) ∙ take-append-seam s (drop (0 + length s) l),
       omega (arith, p, n),
     )
