@@ -2,7 +2,7 @@
 -- Assumes nothing.
 use mathlib.Core.Path.{_≡_, refl, sym, ap, _∙_}
 use mathlib.Core.Bool.{Bool, true, false}
-use mathlib.Core.List.{List, [], _∷_, _++_}
+use mathlib.Core.List.{List, [], _∷_, _++_, append-assoc}
 use Prim.Native.Nat.{ℕ, zero, suc, _+_, _*_, _-_, _/_, _%_, _^_, _≤_, _<_}
 use native.Mathlib.Omega.{arith}
 use native.Mathlib.Nat.{pow-suc, div-lt-iff-lt-mul}
@@ -10,7 +10,7 @@ use lib.Dec.{ltb}
 use lib.ListN.{length, getD, length-append}
 use lib.ListN.{List·getD-append}
 use borrow.Author.Tests.{lt-ltb, le-ltb, ltb-true, ltb-false}
-use Rattle.trace.specs.Lines.{spelled, decimal, field, valueOf, readFrom}
+use Rattle.text.specs.Decimals.{spelled, decimal, lastTwo, field, valueOf, readFrom}
 
 -- ---- a digit more
 
@@ -46,33 +46,31 @@ decimal-large n h =
     spelled-large n n h ∙ ap (λ d. d ++ ((48 + n % 10) ∷ [])) (spelled-same n (suc (n / 10)) (n / 10) (omega arith) (omega arith))
 
 -- two digits
-pub decimal-two : (n : ℕ) → 10 ≤ n → n < 100 → decimal n ≡ ((48 + n / 10) ∷ []) ++ ((48 + n % 10) ∷ [])
-decimal-two n h k = decimal-large n h ∙ ap (λ d. d ++ ((48 + n % 10) ∷ [])) (decimal-small (n / 10) (omega arith))
+pub decimal-two : (n : ℕ) → 10 ≤ n → n < 100 → decimal n ≡ lastTwo n
+decimal-two n h k =
+    let q : n / 10 ≡ n / 10 % 10 = omega arith in
+    decimal-large n h
+    ∙ ap (λ d. d ++ ((48 + n % 10) ∷ [])) (decimal-small (n / 10) (omega arith))
+    ∙ ap (λ d. (48 + d) ∷ (48 + n % 10) ∷ []) q
 
 -- any longer number is its hundreds and its last two digits
-pub decimal-more : (n : ℕ) → 100 ≤ n → decimal n ≡ decimal (n / 100) ++ ((48 + n / 10 % 10) ∷ []) ++ ((48 + n % 10) ∷ [])
+pub decimal-more : (n : ℕ) → 100 ≤ n → decimal n ≡ decimal (n / 100) ++ lastTwo n
 decimal-more n h =
     let q : n / 10 / 10 ≡ n / 100 = omega arith in
     decimal-large n (omega arith)
     ∙ ap (λ d. d ++ ((48 + n % 10) ∷ [])) (decimal-large (n / 10) (omega arith) ∙ ap (λ m. decimal m ++ ((48 + n / 10 % 10) ∷ [])) q)
+    ∙ append-assoc (decimal (n / 100)) ((48 + n / 10 % 10) ∷ []) ((48 + n % 10) ∷ [])
 
 -- ---- how many digits
 
-pub length-small : (n : ℕ) → n < 10 → length (decimal n) ≡ 1
+length-small : (n : ℕ) → n < 10 → length (decimal n) ≡ 1
 length-small n h = ap length (decimal-small n h)
 
-pub length-large : (n : ℕ) → 10 ≤ n → length (decimal n) ≡ length (decimal (n / 10)) + 1
+length-large : (n : ℕ) → 10 ≤ n → length (decimal n) ≡ length (decimal (n / 10)) + 1
 length-large n h = ap length (decimal-large n h) ∙ length-append (decimal (n / 10)) ((48 + n % 10) ∷ [])
 
-pub length-two : (n : ℕ) → 10 ≤ n → n < 100 → length (decimal n) ≡ 2
-length-two n h k = ap length (decimal-two n h k)
-
-pub length-more : (n : ℕ) → 100 ≤ n → length (decimal n) ≡ length (decimal (n / 100)) + 2
-length-more n h =
-    let q : n / 10 / 10 ≡ n / 100 = omega arith in
-    omega (arith, length-large n (omega arith), length-large (n / 10) (omega arith), ap (λ m. length (decimal m)) q)
-
-digits-within : (k n : ℕ) → n < 10 ^ suc k → length (decimal n) ≤ suc k
+-- as many digits as a power of ten has zeros hold every number below it
+pub digits-within : (k n : ℕ) → n < 10 ^ suc k → length (decimal n) ≤ suc k
 digits-within zero n h = omega (arith, length-small n h)
 digits-within (suc k) n h = go (ltb n 10) refl (digits-within k (n / 10))
   where

@@ -1,27 +1,13 @@
--- What stands in a text after something was put into a place of it.
+-- What lies behind a place of the input, byte by byte to the front.
 -- Assumes nothing.
-use mathlib.Core.Path.{_≡_, refl, sym, ap, ap₂, _∙_}
+use mathlib.Core.Path.{_≡_, sym, ap, ap₂, _∙_}
 use mathlib.Core.List.{List, [], _∷_, _++_, append-assoc}
-use Prim.Native.Nat.{ℕ, zero, suc, _+_, _≤_, _<_}
+use Prim.Native.Nat.{ℕ, suc, _+_, _≤_, _<_}
 use native.Mathlib.Omega.{arith}
 use native.Mathlib.Numerals.{add-one}
 use lib.ListN.{length, take, drop, getD, set, length-append, length-drop}
 use lib.Seq.{set-split, take-at, take-suc, drop-append-add, drop-drop, length-take-le, getD-append-add, getD-drop}
 use Rattle.payload.specs.Memory.{put}
-use Rattle.payload.proofs.Put.{put-put, length-put}
-
--- a byte that is stored
-pub put-one : (d : List ℕ) (at x : ℕ) → at < length d → set d at x ≡ put d at (x ∷ [])
-unfolding put
-put-one d at x h = set-split d at x h ∙ ap (λ n. take at d ++ (x ∷ drop n d)) (sym (add-one at))
-
--- a byte that is stored behind what was put
-pub put-grown : (d : List ℕ) (at : ℕ) (s : List ℕ) (x b : ℕ) → b ≡ at + length s → at + length s < length d
-    → set (put d at s) b x ≡ put d at (s ++ (x ∷ []))
-put-grown d at s x b e h =
-    put-one (put d at s) b x (omega (arith, length-put d at s (omega arith))) ∙ put-put d at s (x ∷ []) b e (omega arith)
-
--- ---- what lies behind a place, byte by byte to the front
 
 -- a byte is still where it was as long as the front has not reached it
 unmoved : (l : List ℕ) (from i : ℕ) → from + i < length l → getD (take i (drop from l) ++ drop i l) (from + i) 0 ≡ getD (drop from l) i 0
@@ -60,13 +46,3 @@ unfolding put
 moved-all l from n h =
     let e : 0 + length (take n (drop from l)) ≡ n = omega (arith, length-take-le n (drop from l) (simp length-drop (omega arith))) in
     ap (λ k. take n (drop from l) ++ drop k l) (sym e)
-
--- ---- the parts of a line
-
--- what is put behind what was put
-pub put-next : (d m : List ℕ) (at b : ℕ) (s t : List ℕ) → m ≡ put d at s → b ≡ at + length s → at ≤ length d → put m b t ≡ put d at (s ++ t)
-put-next d m at b s t em eb h = ap (λ z. put z b t) em ∙ put-put d at s t b eb h
-
--- the place behind it
-pub place-next : (at b c : ℕ) (s t : List ℕ) → b ≡ at + length s → c ≡ b + length t → c ≡ at + length (s ++ t)
-place-next at b c s t eb ec = simp length-append (omega arith)
