@@ -13,6 +13,12 @@ abbrev pub ascii : String → List ℕ
 ascii end = []
 ascii (then c s) = code c ∷ ascii s
 
+abbrev pub space : ℕ
+space = 32
+
+abbrev pub newline : ℕ
+newline = 10
+
 -- what a text then holds, and the place behind what was put
 pub record Added : Type 0 where
   pub text : List ℕ

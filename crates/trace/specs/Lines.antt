@@ -2,14 +2,8 @@
 -- Assumes nothing.
 use Prim.Native.Nat.{ℕ}
 use mathlib.Core.List.{List, [], _∷_, _++_}
-use Rattle.text.specs.Texts.{ascii}
+use Rattle.text.specs.Texts.{ascii, space, newline}
 use Rattle.text.specs.Decimals.{field}
-
-abbrev pub space : ℕ
-space = 32
-
-abbrev pub newline : ℕ
-newline = 10
 
 -- numbers in decimal, a space between two of them, and the end of the line
 unfoldable pub spaced : List ℕ → List ℕ

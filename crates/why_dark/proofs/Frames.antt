@@ -1,7 +1,8 @@
 -- What is told of a frame, by the answer of the call that names its structures.
 -- Assumes nothing.
 use mathlib.Core.Path.{_≡_, refl, sym, ap, _∙_}
-use mathlib.Core.Bool.{Bool, true, false, cond, true≢false}
+use mathlib.Core.Bool.{Bool, true, false, not, cond, true≢false}
+use mathlib.Core.Logic.{_⊎_, inl, inr}
 use mathlib.Core.List.{List}
 use Prim.Native.Nat.{ℕ, _-_, _≤_, _<_}
 use native.Mathlib.Omega.{arith}
@@ -9,16 +10,25 @@ use lib.Dec.{leb}
 use lib.ListN.{length, take, drop, replicate, length-drop}
 use lib.Seq.{take-all}
 use borrow.Author.Tests.{eq-eqb, ne-eqb, leb-true, lt-ltb, le-ltb}
-use Rattle.answers.specs.declared.Answer.the-variants.{StateOutOfRange}
+use Rattle.answers.specs.declared.Answer.the-variants.{Done, StateOutOfRange, FrameLengthUnfit, BufferTooShort, HeaderTooLong}
 use Rattle.answers.specs.Answers.{answerNumber}
+use Rattle.xgem.specs.Reads.{Found, fields, unreadable, short}
+use Rattle.xgtc.specs.declared.hlend.Hlend.{Hlend}
+use Rattle.xgtc.specs.Reads.{readHlend}
 use Rattle.station.specs.declared.Station.{Station}
+use Rattle.validity.specs.Ranges.{inRange}
+use Rattle.downstream.specs.declared.Opening.{Opening}
+use Rattle.downstream.specs.declared.Opening.the-variants.{Refused, Unread, Opened}
+use Rattle.downstream.specs.Lengths.{lengthFits}
+use Rattle.downstream.specs.Partitions.{headerEnd}
+use Rattle.downstream.specs.Opening.{opening, byHlend}
 use Rattle.layout.specs.declared.Contents.{Contents}
 use Rattle.layout.specs.declared.Contents.the-variants.{Held, Unreadable, Short}
 use Rattle.layout.specs.declared.StateRead.{StateRead}
 use Rattle.layout.specs.Layout.{readOf}
 use Rattle.engine.specs.declared.naming.Named.{Named}
-use Rattle.engine.specs.Naming.{NamesLeft, whyDark}
-use Rattle.why_dark.specs.Words.{tooShort, tooLong}
+use Rattle.engine.specs.Naming.{NamesLeft, namesFit, namesBy, namedIn, whyDark}
+use Rattle.why_dark.specs.Words.{meaning, tooShort, tooLong}
 use Rattle.why_dark.specs.Report.{refusal, lines, reportOf, frameReport, stateReport, report}
 use Rattle.why_dark.proofs.Counted.{count-within}
 
@@ -79,3 +89,38 @@ module _ (input : List ℕ) (r : StateRead) (read : r ≡ readOf input) (fits : 
 
   pub short-told : r .contents ≡ Short → tooShort ≡ report input
   short-told e = told-by Short e
+
+-- ---- what refuses a frame has a meaning: it is one of 1 to 5
+
+abbrev meant : Opening → ℕ
+meant (Refused answer) = length (meaning answer)
+meant (Unread answer) = length (meaning answer)
+meant (Opened h) = 1
+
+opening-meant : (s : Station) (f : List ℕ) (room : Bool) → 0 < meant (opening s f room)
+unfolding opening
+opening-meant s f room = go (inRange s) (lengthFits (length f)) room (readHlend f)
+  where
+    header : (h : Hlend) (t : Bool) → 0 < meant (cond t (Opened h) (Unread HeaderTooLong))
+    header h true = omega arith
+    header h false = omega arith
+
+    go
+        : (a b c : Bool) (r : Found Hlend)
+        → 0 < meant (cond (not a) (Refused StateOutOfRange) (cond (not b) (Refused FrameLengthUnfit) (cond (not c) (Refused BufferTooShort) (byHlend r (length f)))))
+    go false b c r = omega arith
+    go true false c r = omega arith
+    go true true false r = omega arith
+    go true true true (fields h) = header h (leb (headerEnd h) (length f))
+    go true true true unreadable = omega arith
+    go true true true short = omega arith
+
+pub refusal-meant : (s : Station) (f names : List ℕ)
+    → (whyDark s f names .found .answer ≡ Done) ⊎ (0 < length (meaning (whyDark s f names .found .answer)))
+unfolding whyDark namedIn
+refusal-meant s f names = go (opening s f (namesFit names)) (opening-meant s f (namesFit names))
+  where
+    go : (o : Opening) → 0 < meant o → (namesBy o s f names .found .answer ≡ Done) ⊎ (0 < length (meaning (namesBy o s f names .found .answer)))
+    go (Refused answer) h = inr h
+    go (Unread answer) h = inr h
+    go (Opened h) t = inl refl

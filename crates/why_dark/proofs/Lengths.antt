@@ -1,8 +1,8 @@
 -- How long what is printed can be.
 -- Assumes nothing.
-use mathlib.Core.Path.{_≡_, refl, sym, ap, _∙_}
+use mathlib.Core.Path.{_≡_}
 use mathlib.Core.Bool.{Bool, true, false, cond}
-use mathlib.Core.List.{List, [], _∷_, _++_}
+use mathlib.Core.List.{List, [], _∷_}
 use Prim.Native.Nat.{ℕ, zero, suc, _+_, _*_, _^_, _≤_, _<_}
 use native.Mathlib.Omega.{arith}
 use lib.Dec.{leb, ltb, eqb}
@@ -16,7 +16,7 @@ use Rattle.answers.specs.Answers.{answerNumber}
 use Rattle.hec.specs.Reads.{Reading, word, reading}
 use Rattle.hec.specs.Reads as hec
 use Rattle.octets.specs.Octets.{value}
-use Rattle.xgem.specs.Reads.{Found, fields, unreadable, short, taken}
+use Rattle.xgem.specs.Reads.{short, taken}
 use Rattle.xgtc.specs.declared.allocation.Allocation.{Allocation}
 use Rattle.xgtc.specs.Layouts.{allocationOf}
 use Rattle.xgtc.specs.Reads.{readAllocation}
@@ -26,7 +26,7 @@ use Rattle.layout.specs.declared.Contents.the-variants.{Held, Unreadable, Short
 use Rattle.layout.specs.Layout.{readOf}
 use Rattle.engine.specs.Naming.{NamesLeft, whyDark}
 use Rattle.why_dark.proofs.Counted.{count-within}
-use Rattle.why_dark.specs.Words.{names, nameOf, meaning, labelled, marked, tooShort, tooLong, noStructures}
+use Rattle.why_dark.specs.Words.{names, nameOf, meaning, labelled, marked, tooLong, noStructures}
 use Rattle.why_dark.specs.Report.{numbersOf, marksOf, fieldsOf, lineOf, structure, linesFrom, lines, refusal, reportOf, frameReport, stateReport, report}
 
 -- ---- words

@@ -6,7 +6,7 @@ use mathlib.Core.Bool.{cond}
 use mathlib.Core.List.{List, [], _∷_, _++_}
 use lib.Dec.{eqb, ltb}
 use lib.ListN.{length, take, drop, replicate}
-use Rattle.text.specs.Texts.{ascii}
+use Rattle.text.specs.Texts.{ascii, space, newline}
 use Rattle.text.specs.Decimals.{field}
 use Rattle.answers.specs.declared.Answer.{Answer}
 use Rattle.answers.specs.declared.Answer.the-variants.{StateOutOfRange}
@@ -25,12 +25,6 @@ use Rattle.layout.specs.Layout.{readOf}
 use Rattle.engine.specs.Naming.{NamesLeft, mostStructures, whyDark}
 use Rattle.why_dark.specs.Words.{nameOf, meaning, labelled, marked, tooShort, tooLong, noStructures}
 
-abbrev pub space : ℕ
-space = 32
-
-abbrev pub newline : ℕ
-newline = 10
-
 -- ---- a structure
 
 -- the numbers of a structure, of which each has four
@@ -45,13 +39,13 @@ numbersOf a =
 unfoldable pub marksOf : Allocation → List ℕ
 marksOf a = marked (a .dbru) (ascii ", DBRu") ++ marked (a .ploamu) (ascii ", PLOAMu") ++ marked (a .fwi) (ascii ", FWI")
 
--- "if it was read"; the fields are those of the mended word
+-- a structure that could be read has its fields told, those of the mended word
 abbrev pub fieldsOf : Found Allocation → List ℕ
 fieldsOf (fields a) = numbersOf a ++ marksOf a
 fieldsOf unreadable = []
 fieldsOf short = []
 
--- "its number from 0, the name in words", its fields
+-- the structure's number, its name, its fields
 unfoldable pub lineOf : ℕ → ℕ → Found Allocation → List ℕ
 lineOf number name found = field number space ++ nameOf name ++ fieldsOf found ++ (newline ∷ [])
 
@@ -69,7 +63,7 @@ linesFrom f i (name ∷ l) = lineOf i name (structure f i) ++ linesFrom f (i + 1
 abbrev pub lines : List ℕ → List ℕ → List ℕ
 lines f l = cond (eqb (length l) 0) noStructures (linesFrom f 0 l)
 
--- "a refusal prints its number and what it means"
+-- a refusal's number in the paper's table, and what it means
 unfoldable pub refusal : Answer → List ℕ
 refusal answer = labelled (ascii "refused ") (answerNumber answer) ++ ascii ": " ++ meaning answer ++ (newline ∷ [])
 
