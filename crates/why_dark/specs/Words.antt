@@ -53,10 +53,10 @@ marked set name = cond set name []
 
 -- an input that is no state and frame
 abbrev pub tooShort : List ℕ
-tooShort = ascii "input too short: a state has 208 bytes\n"
+tooShort = ascii "input too short: no state of 208 bytes\n"
 
 abbrev pub tooLong : List ℕ
-tooLong = ascii "input too long: a state has 208 bytes, a frame at most 135432\n"
+tooLong = ascii "input too long: more than a state of 208 bytes and a frame of 135432\n"
 
 -- a map of no structures
 abbrev pub noStructures : List ℕ
