@@ -58,8 +58,11 @@ fn make_frame(rng: &mut Rng, s: &Station) -> Vec<u8> {
         .chain(s.allocs.iter().take(s.alloc_count.min(16) as usize).map(|a| a.0 & 0x3FFF))
         .collect();
     let mut at = rng.below(200) as u16;
+    // in some maps series of ours go on until they are too long
+    let long = rng.once_in(6);
+    let ours: Vec<u16> = numbers.iter().copied().filter(|n| *n != 1023 && *n != 1022 && *n != 4711).collect();
     for _ in 0..rng.pick(&[0u64, 0, 1, 2, 3, 6, 20, 40, 40, 300]) {
-        let continues = rng.once_in(3);
+        let continues = if long { !rng.once_in(24) } else { rng.once_in(3) };
         let start = if continues {
             65535
         } else if rng.once_in(12) {
@@ -70,8 +73,8 @@ fn make_frame(rng: &mut Rng, s: &Station) -> Vec<u8> {
         let discovery = s.onu_id.0 == 1023 && !rng.once_in(4);
         let grant = if discovery { 0 } else { rng.pick(&[0, 0, 1, 5, 40, 200, 3000, 9718, 9719, 65535]) };
         let a = Allocation {
-            alloc: AllocId(if discovery { 1023 } else { rng.pick(&numbers) & 0x3FFF }),
-            dbru: rng.once_in(5),
+            alloc: AllocId(if discovery { 1023 } else { rng.pick(if long && !ours.is_empty() { &ours } else { &numbers }) & 0x3FFF }),
+            dbru: !long && rng.once_in(5),
             ploamu: discovery || rng.once_in(2),
             start,
             grant,

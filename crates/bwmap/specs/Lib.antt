@@ -5,3 +5,4 @@ pub mod Turns
 pub mod Verdicts
 pub mod Sums
 pub mod Names
+pub mod Courses

@@ -26,7 +26,7 @@ pub(crate) fn long(x: u16) -> usize
 }
 
 // The i-th entry of a map.
-pub(crate) fn read_at(map: &[u8], own: Own, i: usize) -> Standing
+fn read_at(map: &[u8], own: Own, i: usize) -> Standing
     requires { ⌜ i < entryCount (now map) ⌝ }
     ensures { λ r. ⌜ r ≡ standing own (entryAt (now (map .entry)) i) ⌝ }
 {

@@ -136,21 +136,21 @@ pub data StretchesRow (s : Station) (f places : List ℕ) (left : PlacesLeft) : 
 
 -- what became of each structure of the map. "Refusals: 1, 2, 4 and 5 as for a frame, 3 for a list of under 2,047 names": after each
 -- nothing is named. No state comes out
-pub record Opened (s : Station) (f names : List ℕ) : Type 0 where
+pub record Passed (s : Station) (f names : List ℕ) : Type 0 where
   pub state : inRange s ≡ true
   pub frame : lengthFits (length f) ≡ true
   pub list : mostStructures ≤ length names
 
 pub data NamesRow (s : Station) (f names : List ℕ) (left : NamesLeft) : ℕ → Type 0 where
   done
-      : Opened s f names → (h : Hlend) → readHlend f ≡ fields h → headerEnd h ≤ length f → left ≡ namedIn s h f names → NamesRow s f names left 0
+      : Passed s f names → (h : Hlend) → readHlend f ≡ fields h → headerEnd h ≤ length f → left ≡ namedIn s h f names → NamesRow s f names left 0
   state-out-of-range : inRange s ≡ false → left ≡ unnamed StateOutOfRange names → NamesRow s f names left 1
   frame-length-unfit : inRange s ≡ true → lengthFits (length f) ≡ false → left ≡ unnamed FrameLengthUnfit names → NamesRow s f names left 2
   list-too-short
       : inRange s ≡ true → lengthFits (length f) ≡ true → length names < mostStructures → left ≡ unnamed BufferTooShort names → NamesRow s f names left 3
-  hlend-unreadable : Opened s f names → readHlend f ≡ unreadable → left ≡ unnamed HlendUnreadable names → NamesRow s f names left 4
+  hlend-unreadable : Passed s f names → readHlend f ≡ unreadable → left ≡ unnamed HlendUnreadable names → NamesRow s f names left 4
   header-too-long
-      : Opened s f names → (h : Hlend) → readHlend f ≡ fields h → length f < headerEnd h → left ≡ unnamed HeaderTooLong names → NamesRow s f names left 5
+      : Passed s f names → (h : Hlend) → readHlend f ≡ fields h → length f < headerEnd h → left ≡ unnamed HeaderTooLong names → NamesRow s f names left 5
 
 -- the writers: every value fits its field and the target has room; or nothing is changed
 pub data WriteRow (fit : Bool) (octets target left : List ℕ) : ℕ → Type 0 where

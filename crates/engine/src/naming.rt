@@ -36,11 +36,14 @@ fn named_in(s: Station, h: Hlend, frame: &[u8], names: &mut [u8]) -> Named
 {
     let end = partitions::map_end(h);
     let map = &frame[partitions::HLEND_OCTETS..end];
+    let arrived = s.activation;
     let link = s.link;
+    let onu = link.onu;
+    let allocs = link.allocs;
     let own = Own {
-        activation: s.activation,
-        onu: link.onu,
-        allocs: link.allocs,
+        activation: arrived,
+        onu: onu,
+        allocs: allocs,
     };
     match bwmap::name_map(map, own, s.carried, names) {
         Naming::Named(n) => Named {

@@ -1,4 +1,5 @@
 // The entries of the bandwidth map (clause 8.1.2), each by itself: read, usable or not, and whose it is.
+pub mod naming;
 pub mod reading;
 
 use ids::AllocId;
@@ -113,25 +114,25 @@ impl Verdict {
     }
 }
 
-fn start_unfit(a: Allocation) -> bool
+pub(crate) fn start_unfit(a: Allocation) -> bool
     ensures { λ r. ⌜ r ≡ startUnfit a ⌝ }
 {
     LAST_WORD < a.start && a.start < CONTINUING
 }
 
-fn no_room(a: Allocation) -> bool
+pub(crate) fn no_room(a: Allocation) -> bool
     ensures { λ r. ⌜ r ≡ noRoom a ⌝ }
 {
     a.dbru && a.grant == 0
 }
 
-fn continues(a: Allocation) -> bool
+pub(crate) fn continues(a: Allocation) -> bool
     ensures { λ r. ⌜ r ≡ continues a ⌝ }
 {
     a.start == CONTINUING
 }
 
-fn or_is(hit: bool, within: bool, id: AllocId, other: AllocId) -> bool
+pub(crate) fn or_is(hit: bool, within: bool, id: AllocId, other: AllocId) -> bool
     ensures { λ r. ⌜ r ≡ hit || (within && sameAlloc id other) ⌝ }
 {
     if hit {
@@ -167,7 +168,7 @@ fn held(onu: OnuId, allocs: Allocs, id: AllocId) -> bool
     among(ids, allocs.count, id)
 }
 
-fn discovery(a: Allocation) -> bool
+pub(crate) fn discovery(a: Allocation) -> bool
     ensures { λ r. ⌜ r ≡ discovery a ⌝ }
 {
     let id = a.alloc;
@@ -183,7 +184,7 @@ fn discovery(a: Allocation) -> bool
     false
 }
 
-fn ranging(onu: OnuId, a: Allocation) -> bool
+pub(crate) fn ranging(onu: OnuId, a: Allocation) -> bool
     ensures { λ r. ⌜ r ≡ ranging onu a ⌝ }
 {
     let id = a.alloc;
