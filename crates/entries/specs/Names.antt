@@ -1,9 +1,9 @@
 -- "what became of it: planned, unreadable, StartTime unfit, DBRu without room, foreign, continuing nothing, seventeenth, too long,
--- overlapping, after the fourth, or a state that sends nothing": the number of each name.
+-- overlapping, after the fourth, or a state that sends nothing", and from 2/12 a profile that hasn't been received: the number of each name.
 -- Assumes nothing.
 use Prim.Native.Nat.{ℕ}
 use Rattle.entries.specs.declared.Verdict.{Verdict}
-use Rattle.entries.specs.declared.Verdict.the-variants.{Planned, Unreadable, StartTimeUnfit, DbruWithoutRoom, Foreign, ContinuingNothing, Seventeenth, TooLong, Overlapping, AfterTheLast, Silent}
+use Rattle.entries.specs.declared.Verdict.the-variants.{Planned, Unreadable, StartTimeUnfit, DbruWithoutRoom, Foreign, ContinuingNothing, Seventeenth, TooLong, Overlapping, AfterTheLast, Silent, ProfileNotReceived}
 
 abbrev pub nameNumber : Verdict → ℕ
 nameNumber Planned = 0
@@ -17,3 +17,4 @@ nameNumber TooLong = 7
 nameNumber Overlapping = 8
 nameNumber AfterTheLast = 9
 nameNumber Silent = 10
+nameNumber ProfileNotReceived = 11

@@ -14,10 +14,11 @@ use Rattle.station.specs.States.{silent}
 use Rattle.link.specs.declared.Allocs.{Allocs}
 use Rattle.ids.specs.Places.{some}
 use Rattle.link.specs.Link.{heldAllocs}
+use Rattle.link.specs.Profiles.{parityAt}
 use Rattle.entries.specs.Limits.{lastStart, continuing}
 use Rattle.entries.specs.declared.Own.{Own}
 use Rattle.entries.specs.declared.Verdict.{Verdict}
-use Rattle.entries.specs.declared.Verdict.the-variants.{Planned, Unreadable, StartTimeUnfit, DbruWithoutRoom, Foreign, ContinuingNothing, Seventeenth, TooLong, Overlapping, AfterTheLast, Silent}
+use Rattle.entries.specs.declared.Verdict.the-variants.{Planned, Unreadable, StartTimeUnfit, DbruWithoutRoom, Foreign, ContinuingNothing, Seventeenth, TooLong, Overlapping, AfterTheLast, Silent, ProfileNotReceived}
 use Rattle.entries.specs.declared.Standing.{Standing}
 use Rattle.entries.specs.declared.Standing.the-variants.{Apart, Head, More}
 
@@ -33,6 +34,7 @@ isPlanned TooLong = false
 isPlanned Overlapping = false
 isPlanned AfterTheLast = false
 isPlanned Silent = false
+isPlanned ProfileNotReceived = false
 
 -- "if StartTime is 9,720 to 65,534"
 unfoldable pub startUnfit : Allocation → Bool
@@ -70,12 +72,13 @@ oursIn EmergencyStop onu allocs a = false
 abbrev pub ours : Own → Allocation → Bool
 ours own a = oursIn (own .activation) (own .onu) (own .allocs) a
 
--- an entry that could be read: not of ours, for the first reason that applies, or a head of ours, or one that continues
+-- an entry that could be read: not of ours, for the first reason that applies, or a head of ours, with what is known of its profile, or
+-- one that continues
 unfoldable pub sorted : Own → Allocation → Standing
 sorted own a =
     cond (startUnfit a) (Apart StartTimeUnfit)
     (cond (noRoom a) (Apart DbruWithoutRoom)
-    (cond (ours own a) (cond (continues a) (More a) (Head a)) (Apart Foreign)))
+    (cond (ours own a) (cond (continues a) (More a) (Head a (parityAt (own .profiles) (a .profile)))) (Apart Foreign)))
 
 -- "A structure is unusable if unreadable"
 abbrev pub readAsStanding : Own → Found Allocation → Standing

@@ -5,6 +5,8 @@ pub mod reading;
 use ids::AllocId;
 use ids::OnuId;
 use link::Allocs;
+use link::Parity;
+use link::Profiles;
 use station::Activation;
 use station::limits::LAST_WORD;
 use xgtc::allocation::Allocation;
@@ -29,6 +31,7 @@ pub struct Own {
     pub activation: Activation,
     pub onu: OnuId,
     pub allocs: Allocs,
+    pub profiles: Profiles,
 }
 
 // What becomes of an entry of the map.
@@ -44,6 +47,7 @@ pub enum Verdict {
     Overlapping,
     AfterTheLast,
     Silent,
+    ProfileNotReceived,
 }
 
 // The numbers of the names that the verdicts have where they are told.
@@ -69,10 +73,13 @@ pub const AFTER_THE_LAST: u8 = 9;
 
 pub const SILENT: u8 = 10;
 
-// An entry by itself: apart from every series, for a reason; or of ours, a head or one that continues.
+pub const PROFILE_NOT_RECEIVED: u8 = 11;
+
+// An entry by itself: apart from every series, for a reason; or of ours, a head, with what is known of its burst's parity, or one that
+// continues.
 pub enum Standing {
     Apart(Verdict),
-    Head(Allocation),
+    Head(Allocation, Parity),
     More(Allocation),
 }
 
@@ -92,6 +99,7 @@ impl Verdict {
             Verdict::Overlapping => false,
             Verdict::AfterTheLast => false,
             Verdict::Silent => false,
+            Verdict::ProfileNotReceived => false,
         }
     }
 
@@ -110,6 +118,7 @@ impl Verdict {
             Verdict::Overlapping => OVERLAPPING,
             Verdict::AfterTheLast => AFTER_THE_LAST,
             Verdict::Silent => SILENT,
+            Verdict::ProfileNotReceived => PROFILE_NOT_RECEIVED,
         }
     }
 }
@@ -229,7 +238,10 @@ impl Own {
             if continues(a) {
                 return Standing::More(a);
             }
-            return Standing::Head(a);
+            let profiles = self.profiles;
+            let profile = profiles.at(a.profile);
+            let parity = profile.parity;
+            return Standing::Head(a, parity);
         }
         Standing::Apart(Verdict::Foreign)
     }

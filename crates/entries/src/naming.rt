@@ -78,7 +78,10 @@ fn sort(own: Own, a: Allocation) -> Standing
         if continues(a) {
             return Standing::More(a);
         }
-        return Standing::Head(a);
+        let profiles = own.profiles;
+        let profile = profiles.at(a.profile);
+        let parity = profile.parity;
+        return Standing::Head(a, parity);
     }
     Standing::Apart(Verdict::Foreign)
 }

@@ -22,6 +22,9 @@ profileIndex i = i % profiles
 unfoldable pub profileAt : Profiles → ℕ → Profile
 profileAt p i = getD (p .held) (profileIndex i) notReceived
 
+unfoldable pub parityAt : Profiles → ℕ → Parity
+parityAt p i = profileAt p i .parity
+
 abbrev pub received : Bool → Profile
 received parity = record { parity = cond parity On Off }
 

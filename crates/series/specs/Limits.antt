@@ -20,3 +20,10 @@ wordsABurst = upstreamWords
 -- 8.2.2: the words of a PLOAMu, 48 octets
 abbrev pub ploamuWords : ℕ
 ploamuWords = 12
+
+-- 10.3.2: a block of 232 octets is 58 words, and has 16 octets of parity, 4 words
+abbrev pub wordsABlock : ℕ
+wordsABlock = 58
+
+abbrev pub parityABlock : ℕ
+parityABlock = 4

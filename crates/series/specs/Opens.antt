@@ -6,18 +6,20 @@ use lib.Dec.{ltb, leb}
 use Rattle.xgtc.specs.declared.allocation.Allocation.{Allocation}
 use Rattle.entries.specs.Standings.{isPlanned}
 use Rattle.series.specs.Limits.{entriesABurst, moreABurst}
-use Rattle.series.specs.Series.{wordsOf, judged}
+use Rattle.link.specs.declared.Parity.{Parity}
+use Rattle.link.specs.declared.Parity.the-variants.{NotReceived}
+use Rattle.series.specs.Series.{wordsOf, sentWords, judged}
 use Rattle.series.specs.declared.Around.{Around}
 use Rattle.series.specs.declared.Open.{Open}
 
 abbrev pub closed : Open
-closed = record { entries = 0; start = 0; words = 0 }
+closed = record { entries = 0; start = 0; words = 0; parity = NotReceived }
 
-abbrev pub opened : Allocation → Open
-opened h = record { entries = 1; start = h .start; words = wordsOf h 0 }
+abbrev pub opened : Allocation → Parity → Open
+opened h p = record { entries = 1; start = h .start; words = wordsOf h 0; parity = p }
 
 abbrev pub joined : Open → Allocation → Open
-joined s a = record { entries = s .entries + 1; start = s .start; words = s .words + a .grant }
+joined s a = record { entries = s .entries + 1; start = s .start; words = s .words + a .grant; parity = s .parity }
 
 -- one is open, and has room for one more
 unfoldable pub goesOn : Open → Bool
@@ -25,7 +27,7 @@ goesOn s = ltb 0 (s .entries) && leb (s .entries) moreABurst
 
 -- one is open, and is planned as it ends
 unfoldable pub fits : Around → Open → Bool
-fits around s = ltb 0 (s .entries) && isPlanned (judged around (s .start) (s .words))
+fits around s = ltb 0 (s .entries) && isPlanned (judged around (s .parity) (s .start) (sentWords (s .parity) (s .words)))
 
 -- its numbers stay small
 pub record Modest (s : Open) : Type 0 where

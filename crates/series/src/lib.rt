@@ -1,6 +1,7 @@
 // A burst allocation series (clause 8.1.2), as far as the entries of the map that make it are read: where its burst
 // starts, how many words that takes, whether it has room for one more entry, and whether it is planned.
 use entries::Verdict;
+use link::Parity;
 use station::limits::UPSTREAM_WORDS;
 use xgtc::allocation::Allocation;
 ghost use Prim.Native.Nat.{_≤_, _<_};
@@ -27,12 +28,13 @@ pub struct Around {
     pub bursts: usize,
 }
 
-// A series as far as it is read: its entries, none where no series is open; the word where its burst starts, and the
-// words of that burst.
+// A series as far as it is read: its entries, none where no series is open; the word where its burst starts, the words of that burst
+// before parity, and what is known of its parity. Parity is not additive over entries: it is counted when a series is judged.
 pub struct Open {
     pub entries: usize,
     pub start: usize,
     pub words: usize,
+    pub parity: Parity,
 }
 
 fn long(x: u16) -> usize
@@ -59,16 +61,18 @@ pub fn closed() -> Open
         entries: 0,
         start: 0,
         words: 0,
+        parity: Parity::NotReceived,
     }
 }
 
-pub fn opened(h: Allocation) -> Open
-    ensures { λ r. ⌜ (r ≡ opened h) × Modest r ⌝ }
+pub fn opened(h: Allocation, parity: Parity) -> Open
+    ensures { λ r. ⌜ (r ≡ opened h parity) × Modest r ⌝ }
 {
     Open {
         entries: 1,
         start: long(h.start),
         words: head_words(h),
+        parity: parity,
     }
 }
 
@@ -79,10 +83,23 @@ pub fn goes_on(s: Open) -> bool
     0 < s.entries && s.entries <= MORE_A_BURST
 }
 
-// What becomes of a burst of so many words at `start`.
-pub fn judge(around: Around, start: usize, words: usize) -> Verdict
-    ensures { λ r. ⌜ r ≡ judged around start words ⌝ }
+fn is_unknown(parity: Parity) -> bool
+    ensures { λ r. ⌜ r ≡ unknown parity ⌝ }
 {
+    match parity {
+        Parity::NotReceived => true,
+        Parity::Off => false,
+        Parity::On => false,
+    }
+}
+
+// What becomes of a burst of so many words, after parity, at `start`.
+pub fn judge(around: Around, parity: Parity, start: usize, words: usize) -> Verdict
+    ensures { λ r. ⌜ r ≡ judged around parity start words ⌝ }
+{
+    if is_unknown(parity) {
+        return Verdict::ProfileNotReceived;
+    }
     if WORDS_A_BURST < words {
         return Verdict::TooLong;
     }
