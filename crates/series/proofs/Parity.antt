@@ -1,15 +1,15 @@
 -- The words that parity adds, and how the code counts them.
 -- Assumes nothing.
 use Prim.Native.Nat.{ℕ, _+_, _*_, _/_, _≤_, _<_}
-use mathlib.Core.Path.{_≡_, refl}
-use mathlib.Core.Bool.{Bool, true, false, cond}
+use mathlib.Core.Path.{_≡_, _∙_, refl, sym, ap}
+use mathlib.Core.Bool.{Bool, true, false, cond, true≢false, false≢true}
 use native.Mathlib.Omega.{arith}
 use lib.Dec.{leb, ltb}
 use borrow.Author.Tests.{le-leb, lt-ltb, leb-false}
 use Rattle.link.specs.declared.Parity.{Parity}
 use Rattle.link.specs.declared.Parity.the-variants.{NotReceived, Off, On}
 use Rattle.series.specs.Limits.{wordsABurst}
-use Rattle.series.specs.Series.{parityWords, sentWords}
+use Rattle.series.specs.Series.{parityWords, sentWords, unknown}
 use Rattle.series.specs.Opens.{countedWords}
 use Rattle.series.specs.Parity.{ParityRule}
 
@@ -57,6 +57,16 @@ parity-rule =
       longest = longest-words;
       longer = longer-words;
     }
+
+-- ---- received or not
+
+pub unreceived : (p : Parity) → unknown p ≡ true → p ≡ NotReceived
+unreceived NotReceived h = refl
+unreceived Off h = absurd (false≢true h)
+unreceived On h = absurd (false≢true h)
+
+pub received : (p : Parity) → unknown p ≡ false → p ≡ NotReceived → ⊥
+received p h e = true≢false (sym (ap unknown e) ∙ h)
 
 -- ---- as the code counts
 
