@@ -16,60 +16,81 @@ use Rattle.entries.specs.declared.Standing.{Standing}
 use Rattle.entries.specs.declared.Standing.the-variants.{Apart, Head, More}
 use Rattle.entries.specs.Standings.{isPlanned, startUnfit, noRoom, continues, ours, sorted, standing, readAsStanding, Mine}
 use Rattle.station.specs.States.{silent}
+use Rattle.link.specs.declared.Parity.{Parity}
+use Rattle.link.specs.declared.Parity.the-variants.{NotReceived}
+use Rattle.link.specs.Profiles.{parityAt}
 
--- the standing of an entry of ours, as a head or as one that continues
-abbrev pub standsAs : Bool → Allocation → Standing
-standsAs true a = More a
-standsAs false a = Head a
+-- an entry of ours, as a head of that parity or as one that continues
+abbrev stands : Bool → Allocation → Parity → Standing
+stands true a p = More a
+stands false a p = Head a p
 
-record Sorted (own : Own) (a b : Allocation) (more : Bool) : Type 0 where
+-- a head's parity is what its profile is known for
+abbrev Known : Own → Allocation → Parity → Bool → Type 0
+Known own a p true = Unit {0}
+Known own a p false = p ≡ parityAt (own .profiles) (a .profile)
+
+record Sorted (own : Own) (a b : Allocation) (p : Parity) (more : Bool) : Type 0 where
   same : a ≡ b
   fit : startUnfit a ≡ false
   room : noRoom a ≡ false
   owned : ours own a ≡ true
   kind : continues a ≡ more
+  known : Known own b p more
 
 clash : {A : Type 0} → _≡_ {A = ℕ} 0 1 → A
 clash z =
     let f : ⊥ = omega arith in
     absurd f
 
-pick : (own : Own) (a b : Allocation) (more s n o k : Bool) → startUnfit a ≡ s → noRoom a ≡ n → ours own a ≡ o → continues a ≡ k
-    → cond s (Apart StartTimeUnfit) (cond n (Apart DbruWithoutRoom) (cond o (cond k (More a) (Head a)) (Apart Foreign))) ≡ standsAs more b
-    → Sorted own a b more
-pick own a b true true n o k p q r t e = clash (cc)
-pick own a b false true n o k p q r t e = clash (cc)
-pick own a b true false true o k p q r t e = clash (cc)
-pick own a b false false true o k p q r t e = clash (cc)
-pick own a b true false false false k p q r t e = clash (cc)
-pick own a b false false false false k p q r t e = clash (cc)
-pick own a b false false false true true p q r t e = clash (cc)
-pick own a b true false false true false p q r t e = clash (cc)
-pick own a b true false false true true p q r t e = record { same = cc; fit = p; room = q; owned = r; kind = t }
-pick own a b false false false true false p q r t e = record { same = cc; fit = p; room = q; owned = r; kind = t }
+pick : (own : Own) (a b : Allocation) (y : Parity) (more s n o k : Bool) → startUnfit a ≡ s → noRoom a ≡ n → ours own a ≡ o → continues a ≡ k
+    → cond s (Apart StartTimeUnfit) (cond n (Apart DbruWithoutRoom) (cond o (cond k (More a) (Head a (parityAt (own .profiles) (a .profile)))) (Apart Foreign))) ≡ stands more b y
+    → Sorted own a b y more
+pick own a b y true true n o k p q r t e = clash (cc)
+pick own a b y false true n o k p q r t e = clash (cc)
+pick own a b y true false true o k p q r t e = clash (cc)
+pick own a b y false false true o k p q r t e = clash (cc)
+pick own a b y true false false false k p q r t e = clash (cc)
+pick own a b y false false false false k p q r t e = clash (cc)
+pick own a b y false false false true true p q r t e = clash (cc)
+pick own a b y true false false true false p q r t e = clash (cc)
+pick own a b y true false false true true p q r t e = record { same = cc; fit = p; room = q; owned = r; kind = t; known = tt }
+pick own a b y false false false true false p q r t e =
+    let same : a ≡ b = cc in
+    let told : parityAt (own .profiles) (a .profile) ≡ y = cc in
+    record { same = same; fit = p; room = q; owned = r; kind = t; known = sym told ∙ ap (λ (x : Allocation). parityAt (own .profiles) (x .profile)) same }
 
-sorted-is : (own : Own) (a b : Allocation) (more : Bool) → sorted own a ≡ standsAs more b → Sorted own a b more
+sorted-is : (own : Own) (a b : Allocation) (p : Parity) (more : Bool) → sorted own a ≡ stands more b p → Sorted own a b p more
 unfolding sorted
-sorted-is own a b more e = pick own a b more (startUnfit a) (noRoom a) (ours own a) (continues a) refl refl refl refl e
+sorted-is own a b p more e = pick own a b p more (startUnfit a) (noRoom a) (ours own a) (continues a) refl refl refl refl e
 
-apart-is-not : (v : Verdict) (b : Allocation) (more : Bool) → Apart v ≡ standsAs more b → _≡_ {A = ℕ} 0 1
-apart-is-not v b true e = cc
-apart-is-not v b false e = cc
+apart-is-not : (v : Verdict) (b : Allocation) (p : Parity) (more : Bool) → Apart v ≡ stands more b p → _≡_ {A = ℕ} 0 1
+apart-is-not v b p true e = cc
+apart-is-not v b p false e = cc
 
-read-is : (own : Own) (e : Found Allocation) (b : Allocation) (more : Bool) → silent (own .activation) ≡ false → readAsStanding own e ≡ standsAs more b → Mine own e b more
-read-is own (fields a) b more z q =
-    let s = sorted-is own a b more q in
-    rw (← s .same) (record { read = refl; sends = z; fit = s .fit; room = s .room; owned = s .owned; kind = s .kind })
-read-is own unreadable b more z q = clash (apart-is-not Unreadable b more q)
-read-is own short b more z q = clash (apart-is-not Unreadable b more q)
+read-is : (own : Own) (e : Found Allocation) (b : Allocation) (p : Parity) (more : Bool) → silent (own .activation) ≡ false → readAsStanding own e ≡ stands more b p → Mine own e b more × Known own b p more
+read-is own (fields a) b p more z q =
+    let s = sorted-is own a b p more q in
+    (rw (← s .same) (record { read = refl; sends = z; fit = s .fit; room = s .room; owned = s .owned; kind = s .kind }), s .known)
+read-is own unreadable b p more z q = clash (apart-is-not Unreadable b p more q)
+read-is own short b p more z q = clash (apart-is-not Unreadable b p more q)
 
-pub ours-is : (own : Own) (e : Found Allocation) (b : Allocation) (more : Bool) → standing own e ≡ standsAs more b → Mine own e b more
+ours-is : (own : Own) (e : Found Allocation) (b : Allocation) (p : Parity) (more : Bool) → standing own e ≡ stands more b p → Mine own e b more × Known own b p more
 unfolding standing
-ours-is own e b more q = go (silent (own .activation)) refl q
+ours-is own e b p more q = go (silent (own .activation)) refl q
   where
-    go : (z : Bool) → silent (own .activation) ≡ z → cond z (Apart Silent) (readAsStanding own e) ≡ standsAs more b → Mine own e b more
-    go true p q = clash (apart-is-not Silent b more q)
-    go false p q = read-is own e b more p q
+    go : (z : Bool) → silent (own .activation) ≡ z → cond z (Apart Silent) (readAsStanding own e) ≡ stands more b p → Mine own e b more × Known own b p more
+    go true h q = clash (apart-is-not Silent b p more q)
+    go false h q = read-is own e b p more h q
+
+pub head-is : (own : Own) (e : Found Allocation) (b : Allocation) (p : Parity) → standing own e ≡ Head b p → Mine own e b false
+head-is own e b p q = ours-is own e b p false q .0
+
+pub head-parity : (own : Own) (e : Found Allocation) (b : Allocation) (p : Parity) → standing own e ≡ Head b p → p ≡ parityAt (own .profiles) (b .profile)
+head-parity own e b p q = ours-is own e b p false q .1
+
+pub more-is : (own : Own) (e : Found Allocation) (b : Allocation) → standing own e ≡ More b → Mine own e b true
+more-is own e b q = ours-is own e b NotReceived true q .0
 
 -- in a state that sends nothing, nothing stands as ours
 pub silent-apart : (own : Own) (e : Found Allocation) → silent (own .activation) ≡ true → standing own e ≡ Apart Silent
@@ -93,7 +114,7 @@ head-start a wide fit kind = go (ltb lastStart (a .start)) refl
 
 -- what stands apart is not planned
 unplanned-sorted : (own : Own) (a : Allocation) (v : Verdict) (s n o k : Bool)
-    → cond s (Apart StartTimeUnfit) (cond n (Apart DbruWithoutRoom) (cond o (cond k (More a) (Head a)) (Apart Foreign))) ≡ Apart v → isPlanned v ≡ false
+    → cond s (Apart StartTimeUnfit) (cond n (Apart DbruWithoutRoom) (cond o (cond k (More a) (Head a (parityAt (own .profiles) (a .profile)))) (Apart Foreign))) ≡ Apart v → isPlanned v ≡ false
 unplanned-sorted own a v true n o k e =
     let q : StartTimeUnfit ≡ v = cc in
     rw (← q) refl

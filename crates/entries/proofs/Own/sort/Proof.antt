@@ -1,6 +1,9 @@
 -- `entries::Own::sort` meets its contract.
 -- Assumes nothing.
-use mathlib.Core.Path.{_∙_, sym}
+use mathlib.Core.Path.{_∙_, sym, ap}
+use Rattle.link.specs.declared.Profile.{Profile}
+use Rattle.link.specs.Profiles.{parityAt}
+use Rattle.entries.specs.declared.Standing.the-variants.{Head}
 use Rattle.entries.specs.Standings.{sorted}
 use borrow.Author.Needs.{needs}
 use Rattle.entries.proofs.Own.sort.Statement.{statement}
@@ -30,9 +33,12 @@ returns-3 : tie.Need-returns-3
 unfolding sorted
 returns-3 c = rw (sym (c .before .before .before .before .before .before .before .start-unfit .ensures) ∙ c .before .before .before .before .before .before .if1 .left, sym (c .before .before .before .before .before .no-room .ensures) ∙ c .before .before .before .before .if2 .left, sym (c .before .before .before .owns .ensures) ∙ c .before .before .if3 .taken, sym (c .before .continues .ensures) ∙ c .if4 .taken)
 
+at-requires : tie.Need-at-requires
+at-requires c κs = search needs
+
 returns-4 : tie.Need-returns-4
-unfolding sorted
-returns-4 c = rw (sym (c .before .before .before .before .before .before .before .start-unfit .ensures) ∙ c .before .before .before .before .before .before .if1 .left, sym (c .before .before .before .before .before .no-room .ensures) ∙ c .before .before .before .before .if2 .left, sym (c .before .before .before .owns .ensures) ∙ c .before .before .if3 .taken, sym (c .before .continues .ensures) ∙ c .if4 .left)
+unfolding sorted parityAt
+returns-4 c = rw (sym (c .before .before .before .before .before .before .before .before .before .start-unfit .ensures) ∙ c .before .before .before .before .before .before .before .before .if1 .left, sym (c .before .before .before .before .before .before .before .no-room .ensures) ∙ c .before .before .before .before .before .before .if2 .left, sym (c .before .before .before .before .before .owns .ensures) ∙ c .before .before .before .before .if3 .taken, sym (c .before .before .before .continues .ensures) ∙ c .before .before .if4 .left) (ap (λ (p : Profile). Head (c .before .before .before .before .before .before .before .before .before .before .args .a) (p .parity)) (c .at .ensures))
 
 returns-5 : tie.Need-returns-5
 unfolding sorted
@@ -49,5 +55,6 @@ sort-spec =
     owns-requires
     continues-requires
     returns-3
+    at-requires
     returns-4
     returns-5)
