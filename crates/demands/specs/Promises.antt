@@ -18,7 +18,8 @@ use Rattle.station.specs.declared.Station.{Station}
 use Rattle.answers.specs.Answers.{answerNumber}
 use Rattle.station.specs.Limits.{registrationOctets}
 use Rattle.station.specs.States.{holdsIdentity, silent}
-use Rattle.link.specs.Link.{nothing}
+use Rattle.link.specs.Link.{nothing, withProfiles}
+use Rattle.link.specs.Profiles.{noProfiles}
 use Rattle.validity.specs.Ranges.{inRange}
 use Rattle.entries.specs.declared.Verdict.{Verdict}
 use Rattle.entries.specs.declared.Verdict.the-variants.{Silent}
@@ -162,8 +163,9 @@ abbrev pub NeverOutOfRange : Engine → Type 0
 NeverOutOfRange E = (serial registration memory : List ℕ) (calls : List Call) → inRange (runOf E serial registration memory calls .station) ≡ true
 
 -- "Entering O1, O2-3 or O7 forgets ONU-ID, Alloc-IDs, delay, key, owed answers": while it stands there nothing of these is held, not an
--- octet of a key
+-- octet of a key. "Profiles are forgotten wherever the ONU-ID is": in O1 and O7 none is held, in O2-3 those alone that it has heard there
 abbrev pub Forgets : Engine → Type 0
 Forgets E =
     (serial registration memory : List ℕ) (calls : List Call)
-    → let s = runOf E serial registration memory calls .station in holdsIdentity (s .activation) ≡ false → s .link ≡ nothing
+    → let s = runOf E serial registration memory calls .station in holdsIdentity (s .activation) ≡ false
+    → (s .link ≡ withProfiles nothing (s .link .profiles)) × (silent (s .activation) ≡ true → s .link .profiles ≡ noProfiles)

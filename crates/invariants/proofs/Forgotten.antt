@@ -1,5 +1,6 @@
 -- A key no longer held is gone: in O1, O2-3 and O7 a station holds nothing that a head end gave it, not an octet of a key,
--- no ONU-ID, Alloc-ID, delay or owed answer. It is so from power-on, and every call keeps it so.
+-- no ONU-ID, Alloc-ID, delay or owed answer, and no profile but those that it has heard in O2-3 itself. It is so from power-on, and
+-- every call keeps it so.
 -- Assumes nothing.
 use Prim.Native.Nat.{ℕ, _-_}
 use mathlib.Core.Path.{_≡_, _∙_, refl, sym, ap}
@@ -16,13 +17,14 @@ use Rattle.station.specs.declared.Activation.the-variants.{Initial, SerialNumbe
 use Rattle.station.specs.declared.Station.{Station}
 use Rattle.link.specs.declared.Link.{Link}
 use Rattle.answers.specs.declared.Answer.{Answer}
-use Rattle.station.specs.States.{holdsIdentity}
+use Rattle.station.specs.States.{holdsIdentity, silent}
 use Rattle.link.specs.Limits.{keyOctets}
-use Rattle.link.specs.Link.{nothing, withDelay, withAllocs, withKey, withOwed, addAlloc, removeAlloc, owe, paid, installed}
+use Rattle.link.specs.Profiles.{noProfiles, setProfile}
+use Rattle.link.specs.Link.{nothing, withDelay, withAllocs, withKey, withOwed, withProfiles, addAlloc, removeAlloc, owe, paid, installed}
 use Rattle.station.specs.Station.{powerOn, enter, withActivation, withLink, withPorts}
 use Rattle.timing.specs.Timing.{countTo1, countTo2, endFrom, frameEnd, silence, lostFrom, lostState, lostTime, unreadFrom, unreadState, unreadTime}
 use Rattle.effects.specs.declared.Change.{Change}
-use Rattle.effects.specs.declared.Change.the-variants.{Keep, Identify, Range, Delay, AddAlloc, RemoveAlloc, Enter}
+use Rattle.effects.specs.declared.Change.the-variants.{Keep, Identify, Range, Delay, AddAlloc, RemoveAlloc, SetProfile, Enter}
 use Rattle.effects.specs.declared.Debt.{Debt}
 use Rattle.effects.specs.declared.Debt.the-variants.{Free, Owes}
 use Rattle.effects.specs.declared.Effect.{Effect}
@@ -42,20 +44,23 @@ use Rattle.invariants.proofs.Valid.{steady, ValidChange, ValidDebt, Val
 
 -- ---- the statement
 
+-- in O1 and O7, where nothing is heard, no profile either
 abbrev pub Forgotten : Station → Type 0
-Forgotten s = holdsIdentity (s .activation) ≡ false → s .link ≡ nothing
+Forgotten s =
+    holdsIdentity (s .activation) ≡ false
+    → (s .link ≡ withProfiles nothing (s .link .profiles)) × (silent (s .activation) ≡ true → s .link .profiles ≡ noProfiles)
 
 -- not an octet of a key
 pub no-octet : (s : Station) → Forgotten s → holdsIdentity (s .activation) ≡ false → s .link .key .octets ≡ replicate keyOctets 0
-no-octet s f h = rw (f h)
+no-octet s f h = ap (λ (l : Link). l .key .octets) (f h .0)
 
 -- ---- it is so from power-on, and on entering
 
 pub power-on-forgotten : (serial registration : List ℕ) → Forgotten (powerOn serial registration)
-power-on-forgotten serial registration h = refl
+power-on-forgotten serial registration h = (refl, λ k. refl)
 
 pub enter-forgotten : (s : Station) (a : Activation) → Forgotten (enter s a)
-enter-forgotten s a h = refl
+enter-forgotten s a h = (refl, λ k. refl)
 
 -- ---- frame times
 
@@ -117,6 +122,12 @@ unread-forgotten s f = unread-from (s .activation) s refl f
 identified : (s : Station) → holdsIdentity (s .activation) ≡ true → (l : Link) → Forgotten (withLink s l)
 identified s i l h = absurd (true≢false (sym i ∙ h))
 
+profile-forgotten
+    : (s : Station) (index : ℕ) (parity : Bool) → silent (s .activation) ≡ false → Forgotten s
+    → Forgotten (withLink s (withProfiles (s .link) (setProfile (s .link .profiles) index parity)))
+profile-forgotten s index parity v f h =
+    (ap (λ (l : Link). withProfiles l (setProfile (s .link .profiles) index parity)) (f h .0), λ k. absurd (true≢false (sym k ∙ v)))
+
 change-forgotten : (s : Station) (c : Change) → ValidChange s c → Forgotten s → Forgotten (applyChange s c)
 unfolding identify range setDelay
 change-forgotten s Keep v f = f
@@ -125,6 +136,7 @@ change-forgotten s (Range delay) v f = λ h. absurd (true≢false h)
 change-forgotten s (Delay delay) v f = identified s v (withDelay (s .link) delay)
 change-forgotten s (AddAlloc id) v f = identified s (v .0) (withAllocs (s .link) (addAlloc (s .link .allocs) id))
 change-forgotten s (RemoveAlloc id) v f = identified s v (withAllocs (s .link) (removeAlloc (s .link .allocs) id))
+change-forgotten s (SetProfile index parity) v f = profile-forgotten s index parity v f
 change-forgotten s (Enter a) v f = enter-forgotten s a
 
 -- an answer is owed only where the change leaves an identity
@@ -138,6 +150,7 @@ still-identified s (Range delay) i t = refl
 still-identified s (Delay delay) i t = i
 still-identified s (AddAlloc id) i t = i
 still-identified s (RemoveAlloc id) i t = i
+still-identified s (SetProfile index parity) i t = i
 still-identified s (Enter a) i t = absurd (false≢true t)
 
 debt-forgotten

@@ -33,7 +33,7 @@ use Rattle.link.specs.Limits.{addedAllocs, mostOwed}
 use Rattle.station.specs.States.{holdsIdentity, stateNumber, o23, o4, o5, o7}
 use Rattle.link.specs.Link.{allocPlace, heldAllocs}
 use Rattle.effects.specs.declared.Change.{Change}
-use Rattle.effects.specs.declared.Change.the-variants.{Keep, Identify, Range, Delay, AddAlloc, RemoveAlloc, Enter}
+use Rattle.effects.specs.declared.Change.the-variants.{Keep, Identify, Range, Delay, AddAlloc, RemoveAlloc, SetProfile, Enter}
 use Rattle.effects.specs.declared.Debt.{Debt}
 use Rattle.effects.specs.declared.Debt.the-variants.{Free, Owes}
 use Rattle.effects.specs.declared.Effect.{Effect}
@@ -42,7 +42,7 @@ use Rattle.decisions.specs.declared.ranging.Target.the-variants.{To, Outside}
 use Rattle.effects.specs.Effects.{ignored, does, answers}
 use Rattle.decisions.specs.Ranging.{absolute, moved, answered, unanswered, rangingTime}
 use Rattle.decisions.specs.Decisions as decided
-use Rattle.decisions.specs.Decisions.{assignOnuId, allocChange, assignAllocId, requestRegistration, deactivate, switchOff, switchOn, disable, unknownType, isBroadcast, isOurs, effectOf, room, fitting}
+use Rattle.decisions.specs.Decisions.{profile, assignOnuId, allocChange, assignAllocId, requestRegistration, deactivate, switchOff, switchOn, disable, unknownType, isBroadcast, isOurs, effectOf, room, fitting}
 use Rattle.ids.specs.Places.{isHeld}
 use Rattle.effects.specs.Changes.{identify, range, setDelay, applyChange, applyDebt, applied}
 use Rattle.decisions.specs.Acts.{act}
@@ -54,7 +54,7 @@ use Rattle.ledger.specs.Messages.{isOwn, byAssignOnuId, acceptsAllocId, 
 use Rattle.ledger.specs.Plan.{ownOf}
 use Rattle.ledger.proofs.Book.{posted}
 use Rattle.ledger.proofs.Numbers.{among, found-among}
-use Rattle.ledger.proofs.Turns.{holdsOwn, Fine, Turn, stays, named, goes, adds, drops, forgets, turned, Allowed, none-held, apart}
+use Rattle.ledger.proofs.Turns.{holdsOwn, Fine, Turn, stays, named, goes, adds, drops, hears, forgets, turned, Allowed, none-held, apart}
 
 -- ---- the statement
 
@@ -65,6 +65,7 @@ turnOf (Range delay) = goes Operation
 turnOf (Delay delay) = stays
 turnOf (AddAlloc id) = adds id
 turnOf (RemoveAlloc id) = drops id
+turnOf (SetProfile index parity) = hears index parity
 turnOf (Enter a) = forgets a
 
 -- what a message did: a change, and the entry that goes with it
@@ -86,6 +87,7 @@ change-turns s (Range delay) = refl
 change-turns s (Delay delay) = refl
 change-turns s (AddAlloc id) = refl
 change-turns s (RemoveAlloc id) = refl
+change-turns s (SetProfile index parity) = refl
 change-turns s (Enter a) = refl
 
 debt-keeps : (s : Station) (d : Debt) → ownOf (applyDebt s d) ≡ ownOf s
@@ -148,6 +150,14 @@ module _ (s : Station) (f : Fine (ownOf s)) where
   -- without room for its answer nothing comes of it
   quiet-fits : (q : Queue) (e : Effect) → Quiet e → Quiet (fitting q e)
   quiet-fits q e p = choose Quiet (room q (e .debt)) e ignored (λ h. p) (λ h n. refl)
+
+  -- ---- Profile
+
+  profile-quiet : (b : Bool) (seq index : ℕ) (parity : Bool) → Quiet (profile (stateNumber (s .activation)) b seq index parity)
+  unfolding profile
+  profile-quiet true seq index parity =
+      choose Quiet (eqb (stateNumber (s .activation)) o23 || (eqb (stateNumber (s .activation)) o4 || eqb (stateNumber (s .activation)) o5)) _ ignored (λ h n. refl) (λ h n. refl)
+  profile-quiet false seq index parity = choose Quiet (eqb (stateNumber (s .activation)) o5) _ ignored (λ h n. refl) (λ h n. refl)
 
   -- ---- Assign_ONU-ID
 
@@ -319,7 +329,8 @@ module _ (s : Station) (f : Fine (ownOf s)) where
       : (b : Bool) (seq : ℕ) (c : Content)
       → Fits s (fitting (s .link .owed) (decided.byContent s b seq c)) (byContent s b c)
   unfolding byDisable
-  by-content b seq Profile = λ n. refl
+  by-content b seq (Profile index parity) =
+      quiet-fits (s .link .owed) (profile (stateNumber (s .activation)) b seq index parity) (profile-quiet b seq index parity)
   by-content b seq (AssignOnuId onu serial) = assign-onu (s .link .owed) b onu serial
   by-content b seq (RangingTime way amount) =
       quiet-fits (s .link .owed) (rangingTime (stateNumber (s .activation)) b (s .link .delay) seq way amount) (ranging-quiet b (s .link .delay) seq way amount)

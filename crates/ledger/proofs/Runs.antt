@@ -14,7 +14,7 @@ use Rattle.validity.specs.Ranges.{identityFits, allocsFit}
 use Rattle.messages.specs.Receiving.{receive}
 use Rattle.entries.specs.declared.Own.{Own}
 use Rattle.effects.specs.declared.Change.{Change}
-use Rattle.effects.specs.declared.Change.the-variants.{Keep, Identify, Range, Delay, AddAlloc, RemoveAlloc, Enter}
+use Rattle.effects.specs.declared.Change.the-variants.{Keep, Identify, Range, Delay, AddAlloc, RemoveAlloc, SetProfile, Enter}
 use Rattle.ledger.specs.Events.{Event, considered, ended, unread, lost, replied, walked, carriedOver, portAdded, portRemoved, keyGiven, after, stationOf}
 use Rattle.ledger.specs.Entries.{Entry, neither}
 use Rattle.ledger.specs.Messages.{byMessage}
@@ -59,6 +59,7 @@ module _ (s : Station) (c1 c2 : ℕ) (p : TimedIn (s .activation) c1 c2) where
   change-timed x (Delay delay) a = same-stay (s .activation) c1 c2 p
   change-timed x (AddAlloc id) a = same-stay (s .activation) c1 c2 p
   change-timed x (RemoveAlloc id) a = same-stay (s .activation) c1 c2 p
+  change-timed x (SetProfile index parity) a = same-stay (s .activation) c1 c2 p
   change-timed x (Enter b) a = untimed b (a .0) _ _
 
   message-moves

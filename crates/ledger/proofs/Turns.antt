@@ -1,4 +1,4 @@
--- The turns that the numbers held can take, each with what it writes into the ledger.
+-- The turns that what the plan looks at can take, each with what it writes into the ledger.
 -- Assumes nothing.
 use Prim.Native.Nat.{ℕ, _<_}
 use mathlib.Core.Path.{_≡_, _∙_, refl, sym, ap}
@@ -15,6 +15,7 @@ use Rattle.station.specs.declared.Activation.the-variants.{Initial, SerialNumbe
 use Rattle.link.specs.Limits.{addedAllocs}
 use Rattle.station.specs.Limits.{to1}
 use Rattle.station.specs.States.{holdsIdentity}
+use Rattle.link.specs.Profiles.{noProfiles, setProfile}
 use Rattle.link.specs.Link.{noAllocs, heldAllocs, allocPlace, addAlloc, removeAlloc}
 use Rattle.validity.specs.Ranges.{identityFits, allocsFit}
 use Rattle.entries.specs.declared.Own.{Own}
@@ -53,15 +54,18 @@ pub data Turn : Type 0 where
   goes : Activation → Turn
   adds : AllocId → Turn
   drops : AllocId → Turn
+  hears : ℕ → Bool → Turn
   forgets : Activation → Turn
 
 abbrev pub turned : Own → Turn → Own
 turned o stays = o
-turned o (named onu) = record { activation = Ranging to1; onu = onu; allocs = o .allocs }
-turned o (goes a) = record { activation = a; onu = o .onu; allocs = o .allocs }
-turned o (adds id) = record { activation = o .activation; onu = o .onu; allocs = addAlloc (o .allocs) id }
-turned o (drops id) = record { activation = o .activation; onu = o .onu; allocs = removeAlloc (o .allocs) id }
-turned o (forgets a) = record { activation = a; onu = broadcastOnu; allocs = noAllocs }
+turned o (named onu) = record { activation = Ranging to1; onu = onu; allocs = o .allocs; profiles = o .profiles }
+turned o (goes a) = record { activation = a; onu = o .onu; allocs = o .allocs; profiles = o .profiles }
+turned o (adds id) = record { activation = o .activation; onu = o .onu; allocs = addAlloc (o .allocs) id; profiles = o .profiles }
+turned o (drops id) = record { activation = o .activation; onu = o .onu; allocs = removeAlloc (o .allocs) id; profiles = o .profiles }
+turned o (hears index parity) =
+    record { activation = o .activation; onu = o .onu; allocs = o .allocs; profiles = setProfile (o .profiles) index parity }
+turned o (forgets a) = record { activation = a; onu = broadcastOnu; allocs = noAllocs; profiles = noProfiles }
 
 -- where each turn is taken, and the entry that goes with it
 abbrev pub Allowed : Own → Turn → Entry → Type 0
@@ -76,6 +80,7 @@ Allowed o (adds id) x =
     × (x ≡ gave (id .0))
 Allowed o (drops id) x =
     (o .activation ≡ Operation) × (assignableAlloc id ≡ true) × (isHeld (allocPlace (o .allocs) id) ≡ true) × (x ≡ tookBack (id .0))
+Allowed o (hears index parity) x = (n : ℕ) → posted x (holdsOwn o) n ≡ holdsOwn o n
 Allowed o (forgets a) x = (holdsIdentity a ≡ false) × ((n : ℕ) → posted x (holdsOwn o) n ≡ false)
 
 -- ---- what is held stays in range
@@ -132,6 +137,7 @@ turn-fine o f (drops id) x p =
       identity = f .identity;
       bare = λ h. absurd (true≢false (sym (ap mayHold (p .0)) ∙ h));
     }
+turn-fine o f (hears index parity) x p = record { long = f .long; fit = f .fit; identity = f .identity; bare = f .bare }
 turn-fine o f (forgets a) x p =
     record { long = refl; fit = no-allocs-fit; identity = nobody a (p .0); bare = λ h. refl }
 
@@ -171,4 +177,5 @@ turn-held o f (adds id) x p n =
 turn-held o f (drops id) x p n =
     rw (p .3, removed-among (o .allocs) id n (f .long) (f .fit) (p .2))
     (taken (eqb n (id .0)) (holdsIdentity (o .activation) && eqb n (o .onu .0)) (among (heldAllocs (o .allocs)) n) (apart o f id (p .1) n))
+turn-held o f (hears index parity) x p n = sym (p n)
 turn-held o f (forgets a) x p n = rw (p .0, p .1 n)
