@@ -16,10 +16,13 @@ use Rattle.station.specs.declared.Activation.{Activation}
 use Rattle.station.specs.declared.Activation.the-variants.{Initial, SerialNumber, Ranging, Operation, Intermittent, EmergencyStop}
 use Rattle.station.specs.declared.Station.{Station}
 use Rattle.station.specs.States.{holdsIdentity}
-use Rattle.link.specs.Link.{allocPlace, addAlloc, removeAlloc, owe, paid}
+use Rattle.link.specs.declared.Profiles.{Profiles}
+use Rattle.link.specs.Link.{allocPlace, addAlloc, removeAlloc, owe, paid, withProfiles}
+use Rattle.link.specs.Profiles.{setProfile}
+use Rattle.station.specs.Station.{withLink}
 use Rattle.validity.specs.Ranges.{identityFits}
 use Rattle.effects.specs.declared.Change.{Change}
-use Rattle.effects.specs.declared.Change.the-variants.{Keep, Identify, Range, Delay, AddAlloc, RemoveAlloc, Enter}
+use Rattle.effects.specs.declared.Change.the-variants.{Keep, Identify, Range, Delay, AddAlloc, RemoveAlloc, SetProfile, Enter}
 use Rattle.effects.specs.declared.Debt.{Debt}
 use Rattle.effects.specs.declared.Debt.the-variants.{Free, Owes}
 use Rattle.effects.specs.declared.Effect.{Effect}
@@ -91,6 +94,24 @@ delay-sound s delay f =
       owed = f .owed;
     }
 
+-- "Profiles have no range"
+profiles-sound : (s : Station) (p : Profiles) → Sound s → Sound (withLink s (withProfiles (s .link) p))
+profiles-sound s p f =
+    record {
+      allocs-long = f .allocs-long;
+      answers-long = f .answers-long;
+      ports-long = f .ports-long;
+      lengths-long = f .lengths-long;
+      waiting-long = f .waiting-long;
+      identity = f .identity;
+      allocs = f .allocs;
+      ports = f .ports;
+      partials = f .partials;
+      carried = f .carried;
+      timer = f .timer;
+      owed = f .owed;
+    }
+
 change-sound : (s : Station) (c : Change) → ValidChange s c → Sound s → Sound (applyChange s c)
 change-sound s Keep v f = f
 change-sound s (Identify onu) v f = identify-sound s onu v f
@@ -102,6 +123,7 @@ change-sound s (AddAlloc id) v f =
 change-sound s (RemoveAlloc id) v f =
     let a = removed (s .link .allocs) (f .allocs-long) (f .allocs) id (allocPlace (s .link .allocs) id) refl in
     with-allocs-sound s (removeAlloc (s .link .allocs) id) (a .1) (a .0) f
+change-sound s (SetProfile index parity) v f = profiles-sound s (setProfile (s .link .profiles) index parity) f
 change-sound s (Enter a) v f = enter-sound s a (v .0) (v .1) f
 
 debt-sound : (s : Station) (d : Debt) → Sound s → Sound (applyDebt s d)

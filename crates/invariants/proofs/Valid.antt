@@ -16,18 +16,19 @@ use Rattle.ploam.specs.declared.AllocChange.the-variants.{Assign, Deallocate, O
 use Rattle.ploam.specs.declared.Content.{Content}
 use Rattle.ploam.specs.declared.Content.the-variants.{Profile, AssignOnuId, RangingTime, DeactivateOnuId, DisableSerialNumber, RequestRegistration, AssignAllocId, KeyControl, SleepAllow, Unknown}
 use Rattle.ploam.specs.declared.Message.{Message}
+use Rattle.ploam.specs.declared.Completion.the-variants.{Ok}
 use Rattle.ploam.specs.Reading.{serialAt}
 use Rattle.station.specs.declared.Activation.{Activation}
 use Rattle.station.specs.declared.Activation.the-variants.{Initial, SerialNumber, Ranging, Operation, Intermittent, EmergencyStop}
 use Rattle.station.specs.declared.Station.{Station}
 use Rattle.link.specs.declared.Allocs.{Allocs}
 use Rattle.link.specs.Limits.{addedAllocs, mostOwed}
-use Rattle.station.specs.States.{holdsIdentity, stateNumber, o4, o5}
+use Rattle.station.specs.States.{holdsIdentity, stateNumber, o23, o4, o5}
 use Rattle.link.specs.Link.{allocPlace}
 use Rattle.validity.specs.Ranges.{timerFits}
 use Rattle.validity.proofs.Tests.{both}
 use Rattle.effects.specs.declared.Change.{Change}
-use Rattle.effects.specs.declared.Change.the-variants.{Keep, Identify, Range, Delay, AddAlloc, RemoveAlloc, Enter}
+use Rattle.effects.specs.declared.Change.the-variants.{Keep, Identify, Range, Delay, AddAlloc, RemoveAlloc, SetProfile, Enter}
 use Rattle.effects.specs.declared.Debt.{Debt}
 use Rattle.effects.specs.declared.Debt.the-variants.{Free, Owes}
 use Rattle.effects.specs.declared.Effect.{Effect}
@@ -35,10 +36,19 @@ use Rattle.decisions.specs.declared.ranging.Target.{Target}
 use Rattle.decisions.specs.declared.ranging.Target.the-variants.{To, Outside}
 use Rattle.effects.specs.Effects.{ignored, does, owes, answers}
 use Rattle.decisions.specs.Ranging.{absolute, moved, answered, unanswered, rangingTime}
-use Rattle.decisions.specs.Decisions.{sameSerial, assignOnuId, allocChange, assignAllocId, requestRegistration, deactivate, switchOff, switchOn, switched, disable, unknownType, byContent, isBroadcast, isOurs, effectOf, room, fitting, decision}
+use Rattle.decisions.specs.Decisions.{sameSerial, profile, assignOnuId, allocChange, assignAllocId, requestRegistration, deactivate, switchOff, switchOn, switched, disable, unknownType, byContent, isBroadcast, isOurs, effectOf, room, fitting, decision}
 use Rattle.ids.specs.Places.{isHeld}
 
 -- ---- the statement
+
+-- the states in which a Profile is taken: "broadcast in O2-3, O4, O5; directed in O5 only"
+abbrev pub hears : Activation → Bool
+hears Initial = false
+hears SerialNumber = true
+hears (Ranging left) = true
+hears Operation = true
+hears (Intermittent left) = false
+hears EmergencyStop = false
 
 abbrev pub ValidChange : Station → Change → Type 0
 ValidChange s Keep = Unit {0}
@@ -48,6 +58,7 @@ ValidChange s (Delay delay) = holdsIdentity (s .activation) ≡ true
 ValidChange s (AddAlloc id) =
     (holdsIdentity (s .activation) ≡ true) × (assignableAlloc id ≡ true) × (isHeld (allocPlace (s .link .allocs) id) ≡ false)
 ValidChange s (RemoveAlloc id) = holdsIdentity (s .activation) ≡ true
+ValidChange s (SetProfile index parity) = hears (s .activation) ≡ true
 ValidChange s (Enter a) = (holdsIdentity a ≡ false) × (timerFits a ≡ true)
 
 -- the change leaves an identity where there is one
@@ -58,6 +69,7 @@ steady (Range delay) = true
 steady (Delay delay) = true
 steady (AddAlloc id) = true
 steady (RemoveAlloc id) = true
+steady (SetProfile index parity) = true
 steady (Enter a) = false
 
 abbrev pub ValidDebt : Station → Change → Debt → Type 0
@@ -93,8 +105,37 @@ module _ (s : Station) where
   in-o4 (Intermittent left) e = refl
   in-o4 EmergencyStop e = absurd (false≢true e)
 
+  heard : (a : Activation) → (eqb (stateNumber a) o23 || (eqb (stateNumber a) o4 || eqb (stateNumber a) o5)) ≡ true → hears a ≡ true
+  heard Initial e = absurd (false≢true e)
+  heard SerialNumber e = refl
+  heard (Ranging left) e = refl
+  heard Operation e = refl
+  heard (Intermittent left) e = absurd (false≢true e)
+  heard EmergencyStop e = absurd (false≢true e)
+
+  heard-in-o5 : (a : Activation) → eqb (stateNumber a) o5 ≡ true → hears a ≡ true
+  heard-in-o5 Initial e = absurd (false≢true e)
+  heard-in-o5 SerialNumber e = absurd (false≢true e)
+  heard-in-o5 (Ranging left) e = absurd (false≢true e)
+  heard-in-o5 Operation e = refl
+  heard-in-o5 (Intermittent left) e = absurd (false≢true e)
+  heard-in-o5 EmergencyStop e = absurd (false≢true e)
+
 -- ---- the bullets
 module _ (s : Station) where
+  profile-valid : (b : Bool) (seq index : ℕ) (parity : Bool) → Valid s (profile (stateNumber (s .activation)) b seq index parity)
+  unfolding profile
+  profile-valid true seq index parity =
+      choose (Valid s)
+      (eqb (stateNumber (s .activation)) o23 || (eqb (stateNumber (s .activation)) o4 || eqb (stateNumber (s .activation)) o5))
+      (does (SetProfile index parity)) ignored
+      (λ h. (heard s (s .activation) h, tt))
+      (λ h. nothing-wrong s)
+  profile-valid false seq index parity =
+      choose (Valid s) (eqb (stateNumber (s .activation)) o5) (answers (SetProfile index parity) Ok seq) ignored
+      (λ h. (heard-in-o5 s (s .activation) h, (in-o5 s (s .activation) h, refl)))
+      (λ h. nothing-wrong s)
+
   assign-onu : (b own : Bool) (onu : OnuId) → Valid s (assignOnuId (stateNumber (s .activation)) b own onu)
   unfolding assignOnuId
   assign-onu b own onu =
@@ -188,7 +229,7 @@ module _ (s : Station) where
       choose (Valid s) b (switched a own switch) ignored (λ h. switched-valid a own switch) (λ h. nothing-wrong s)
 
   content-valid : (b : Bool) (seq : ℕ) (c : Content) → Valid s (byContent s b seq c)
-  content-valid b seq Profile = nothing-wrong s
+  content-valid b seq (Profile index parity) = profile-valid b seq index parity
   content-valid b seq (AssignOnuId onu serial) = assign-onu b (sameSerial (serialAt (s .serial) 0) serial) onu
   content-valid b seq (RangingTime way amount) = ranging-valid b (s .link .delay) seq way amount
   content-valid b seq DeactivateOnuId = deactivate-valid (s .activation)
