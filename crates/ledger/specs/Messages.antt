@@ -69,7 +69,7 @@ byDisable s broadcast switch serial =
 
 -- no other message gives or takes back
 abbrev pub byContent : Station → Bool → Content → Entry
-byContent s broadcast Profile = neither
+byContent s broadcast (Profile index parity) = neither
 byContent s broadcast (AssignOnuId onu serial) = byAssignOnuId s broadcast onu serial
 byContent s broadcast (RangingTime way amount) = neither
 byContent s broadcast DeactivateOnuId = byDeactivate s

@@ -21,7 +21,7 @@ use Rattle.ledger.specs.Ledger.{ledger, InLedger}
 
 -- what the plan looks at in a station
 abbrev pub ownOf : Station → Own
-ownOf s = record { activation = s .activation; onu = s .link .onu; allocs = s .link .allocs }
+ownOf s = record { activation = s .activation; onu = s .link .onu; allocs = s .link .allocs; profiles = s .link .profiles }
 
 abbrev pub ownAt : Station → List Event → Own
 ownAt first h = ownOf (stationOf first h)
