@@ -9,13 +9,14 @@ use lib.Dec.{ltb}
 use borrow.Author.Tests.{ltb-true, ltb-false}
 use Rattle.xgtc.specs.declared.allocation.Allocation.{Allocation}
 use Rattle.xgem.specs.Reads.{Found, fields}
+use Rattle.link.specs.declared.Parity.{Parity}
 use Rattle.entries.specs.declared.Own.{Own}
 use Rattle.entries.specs.declared.Verdict.{Verdict}
 use Rattle.entries.specs.declared.Verdict.the-variants.{ContinuingNothing}
 use Rattle.entries.specs.declared.Standing.{Standing}
 use Rattle.entries.specs.declared.Standing.the-variants.{Apart, Head, More}
 use Rattle.entries.specs.Standings.{standing, isPlanned}
-use Rattle.entries.proofs.Facts.{ours-is, apart-unplanned}
+use Rattle.entries.proofs.Facts.{head-is, more-is, apart-unplanned}
 use Rattle.series.specs.Limits.{entriesABurst}
 use Rattle.series.specs.declared.Around.{Around}
 use Rattle.series.specs.Series.{Series, entryAt, entryCount, standingsFrom, run, seriesAt, seriesOf, outset, beyond, verdictOf, planned, plannedOf}
@@ -34,9 +35,9 @@ pub left-apart : (k : ℕ) (v : Verdict) (l : List Standing) → left k (Apart v
 left-apart zero v l = refl
 left-apart (suc k) v l = run-apart (15 - k) v l
 
-pub left-head : (k : ℕ) (a : Allocation) (l : List Standing) → left k (Head a ∷ l) ≡ []
-left-head zero a l = refl
-left-head (suc k) a l = run-head (15 - k) a l
+pub left-head : (k : ℕ) (a : Allocation) (y : Parity) (l : List Standing) → left k (Head a y ∷ l) ≡ []
+left-head zero a y l = refl
+left-head (suc k) a y l = run-head (15 - k) a y l
 
 none : (b : Bool) (l : List Allocation) → l ≡ [] → _≡_ {A = List Allocation} (cond b l []) []
 none true l h = h
@@ -51,25 +52,25 @@ module _ (own : Own) (m : List ℕ) where
   go i j ih around k v (Apart z) h =
       rw (apart-unplanned own (entryAt m i) z h, none (isPlanned v) (left k (Apart z ∷ standingsFrom own m (suc i) j)) (left-apart k z (standingsFrom own m (suc i) j)))
       (ih around 0 v ∙ ap (λ (l : List Allocation). readable (l ++ entriesOf (planned around (seriesOf (standingsFrom own m (suc i) j))))) (none (isPlanned v) [] refl))
-  go i j ih around k v (Head a) h =
-      rw (none (isPlanned v) (left k (Head a ∷ standingsFrom own m (suc i) j)) (left-head k a (standingsFrom own m (suc i) j)), ours-is own (entryAt m i) a false h .read)
-      (one (isPlanned (verdictOf around (seriesAt a (standingsFrom own m (suc i) j)))) refl)
+  go i j ih around k v (Head a y) h =
+      rw (none (isPlanned v) (left k (Head a y ∷ standingsFrom own m (suc i) j)) (left-head k a y (standingsFrom own m (suc i) j)), head-is own (entryAt m i) a y h .read)
+      (one (isPlanned (verdictOf around (seriesAt a y (standingsFrom own m (suc i) j)))) refl)
     where
       s : Series
-      s = seriesAt a (standingsFrom own m (suc i) j)
+      s = seriesAt a y (standingsFrom own m (suc i) j)
 
       one
-          : (b : Bool) → isPlanned (verdictOf around (seriesAt a (standingsFrom own m (suc i) j))) ≡ b
+          : (b : Bool) → isPlanned (verdictOf around (seriesAt a y (standingsFrom own m (suc i) j))) ≡ b
           → cond b
-          (fields a ∷ called (cond b (verdictsOf (beyond around (seriesAt a (standingsFrom own m (suc i) j))) (verdictOf around (seriesAt a (standingsFrom own m (suc i) j))) (roles 1 (standingsFrom own m (suc i) j))) (verdictsOf around (verdictOf around (seriesAt a (standingsFrom own m (suc i) j))) (roles 1 (standingsFrom own m (suc i) j)))) (entriesFrom m (suc i) j))
-          (called (cond b (verdictsOf (beyond around (seriesAt a (standingsFrom own m (suc i) j))) (verdictOf around (seriesAt a (standingsFrom own m (suc i) j))) (roles 1 (standingsFrom own m (suc i) j))) (verdictsOf around (verdictOf around (seriesAt a (standingsFrom own m (suc i) j))) (roles 1 (standingsFrom own m (suc i) j)))) (entriesFrom m (suc i) j))
-          ≡ readable (entriesOf (cond b (seriesAt a (standingsFrom own m (suc i) j) ∷ planned (beyond around (seriesAt a (standingsFrom own m (suc i) j))) (seriesOf (standingsFrom own m (suc i) j))) (planned around (seriesOf (standingsFrom own m (suc i) j)))))
+          (fields a ∷ called (cond b (verdictsOf (beyond around (seriesAt a y (standingsFrom own m (suc i) j))) (verdictOf around (seriesAt a y (standingsFrom own m (suc i) j))) (roles 1 (standingsFrom own m (suc i) j))) (verdictsOf around (verdictOf around (seriesAt a y (standingsFrom own m (suc i) j))) (roles 1 (standingsFrom own m (suc i) j)))) (entriesFrom m (suc i) j))
+          (called (cond b (verdictsOf (beyond around (seriesAt a y (standingsFrom own m (suc i) j))) (verdictOf around (seriesAt a y (standingsFrom own m (suc i) j))) (roles 1 (standingsFrom own m (suc i) j))) (verdictsOf around (verdictOf around (seriesAt a y (standingsFrom own m (suc i) j))) (roles 1 (standingsFrom own m (suc i) j)))) (entriesFrom m (suc i) j))
+          ≡ readable (entriesOf (cond b (seriesAt a y (standingsFrom own m (suc i) j) ∷ planned (beyond around (seriesAt a y (standingsFrom own m (suc i) j))) (seriesOf (standingsFrom own m (suc i) j))) (planned around (seriesOf (standingsFrom own m (suc i) j)))))
       one true p =
           ap (λ (l : List (Found Allocation)). fields a ∷ l)
-          (ih (beyond around (seriesAt a (standingsFrom own m (suc i) j))) 1 (verdictOf around (seriesAt a (standingsFrom own m (suc i) j)))
-          ∙ ap (λ (b : Bool). readable (cond b (run 15 (standingsFrom own m (suc i) j)) [] ++ entriesOf (planned (beyond around (seriesAt a (standingsFrom own m (suc i) j))) (seriesOf (standingsFrom own m (suc i) j))))) p)
+          (ih (beyond around (seriesAt a y (standingsFrom own m (suc i) j))) 1 (verdictOf around (seriesAt a y (standingsFrom own m (suc i) j)))
+          ∙ ap (λ (b : Bool). readable (cond b (run 15 (standingsFrom own m (suc i) j)) [] ++ entriesOf (planned (beyond around (seriesAt a y (standingsFrom own m (suc i) j))) (seriesOf (standingsFrom own m (suc i) j))))) p)
       one false p =
-          ih around 1 (verdictOf around (seriesAt a (standingsFrom own m (suc i) j)))
+          ih around 1 (verdictOf around (seriesAt a y (standingsFrom own m (suc i) j)))
           ∙ ap (λ (b : Bool). readable (cond b (run 15 (standingsFrom own m (suc i) j)) [] ++ entriesOf (planned around (seriesOf (standingsFrom own m (suc i) j))))) p
   go i j ih around zero v (More a) h = ih around 0 v
   go i j ih around (suc k) v (More a) h = one (ltb (suc k) entriesABurst) refl
@@ -86,7 +87,7 @@ module _ (own : Own) (m : List ℕ) where
               → cond b (entryAt m i ∷ called (verdictsOf around v (roles (suc (suc k)) (standingsFrom own m (suc i) j))) (entriesFrom m (suc i) j)) (called (verdictsOf around v (roles (suc (suc k)) (standingsFrom own m (suc i) j))) (entriesFrom m (suc i) j))
               ≡ readable (cond b (a ∷ run (15 - suc k) (standingsFrom own m (suc i) j)) [] ++ entriesOf (planned around (seriesOf (standingsFrom own m (suc i) j))))
           two true q =
-              rw (ours-is own (entryAt m i) a true h .read)
+              rw (more-is own (entryAt m i) a h .read)
               (ap (λ (l : List (Found Allocation)). fields a ∷ l) (ih around (suc (suc k)) v ∙ ap (λ (b : Bool). readable (cond b (run (15 - suc k) (standingsFrom own m (suc i) j)) [] ++ entriesOf (planned around (seriesOf (standingsFrom own m (suc i) j))))) q))
           two false q = ih around (suc (suc k)) v ∙ ap (λ (b : Bool). readable (cond b (run (15 - suc k) (standingsFrom own m (suc i) j)) [] ++ entriesOf (planned around (seriesOf (standingsFrom own m (suc i) j))))) q
       one false p =

@@ -13,6 +13,7 @@ use lib.Seq.{sets, sets-eq}
 use borrow.Author.Tests.{lt-ltb, le-ltb}
 use Rattle.xgtc.specs.declared.allocation.Allocation.{Allocation}
 use Rattle.xgem.specs.Writes.{put}
+use Rattle.link.specs.declared.Parity.{Parity}
 use Rattle.entries.specs.declared.Own.{Own}
 use Rattle.entries.specs.declared.Verdict.{Verdict}
 use Rattle.entries.specs.declared.Verdict.the-variants.{ContinuingNothing, Seventeenth, Silent}
@@ -25,8 +26,9 @@ use Rattle.station.specs.States.{silent}
 use Rattle.series.specs.Limits.{entriesABurst}
 use Rattle.series.specs.declared.Around.{Around}
 use Rattle.series.specs.declared.Open.{Open}
-use Rattle.series.specs.Series.{entryAt, entryCount, standingsFrom, run, seriesAt, grants, wordsOf, endOf, outset, beyond, judged, verdictOf}
-use Rattle.series.specs.Opens.{closed, opened, joined, goesOn, Modest}
+use Rattle.series.specs.Series.{entryAt, entryCount, standingsFrom, run, seriesAt, grants, wordsOf, sentWords, endOf, outset, beyond, judged, verdictOf}
+use Rattle.series.specs.Opens.{closed, opened, joined, goesOn, countedWords, openWords, openVerdict, Modest}
+use Rattle.series.proofs.Parity.{counted-sent}
 use Rattle.series.proofs.Judged.{planned-facts}
 use Rattle.series.proofs.Opens.{goes-on-facts, full-or-none, closed-modest, more-words}
 use Rattle.bwmap.specs.Turns.{rest}
@@ -72,16 +74,16 @@ shift (suc k) v y = ap (λ (l : List Verdict). v ∷ l) (shift k v y)
 stray : (around : Around) (v w : Verdict) (l : List Standing) → verdictsOf around v (roles 0 l) ≡ verdictsOf around w (roles 0 l)
 stray around v w [] = refl
 stray around v w (Apart x ∷ l) = ap (λ (z : List Verdict). x ∷ z) (stray around v w l)
-stray around v w (Head a ∷ l) = refl
+stray around v w (Head a y ∷ l) = refl
 stray around v w (More a ∷ l) = ap (λ (z : List Verdict). ContinuingNothing ∷ z) (stray around v w l)
 
 -- one for each entry
 length-verdicts : (around : Around) (v : Verdict) (k : ℕ) (l : List Standing) → length (nameNumbers (verdictsOf around v (roles k l))) ≡ length l
 length-verdicts around v k [] = refl
 length-verdicts around v k (Apart x ∷ l) = ap suc (length-verdicts around v 0 l)
-length-verdicts around v k (Head a ∷ l) =
-    let u = verdictOf around (seriesAt a l) in
-    ap suc (go (isPlanned u) (verdictsOf (beyond around (seriesAt a l)) u (roles 1 l)) (verdictsOf around u (roles 1 l)) (length-verdicts (beyond around (seriesAt a l)) u 1 l) (length-verdicts around u 1 l))
+length-verdicts around v k (Head a y ∷ l) =
+    let u = verdictOf around (seriesAt a y l) in
+    ap suc (go (isPlanned u) (verdictsOf (beyond around (seriesAt a y l)) u (roles 1 l)) (verdictsOf around u (roles 1 l)) (length-verdicts (beyond around (seriesAt a y l)) u 1 l) (length-verdicts around u 1 l))
   where
     go : (b : Bool) (x y : List Verdict) → length (nameNumbers x) ≡ length l → length (nameNumbers y) ≡ length l → length (nameNumbers (cond b x y)) ≡ length l
     go true x y p q = p
@@ -122,30 +124,30 @@ left-full (suc k) l h =
 
 -- a head, as what is still to come sees it
 opening
-    : (around : Around) (k : ℕ) (v : Verdict) (a : Allocation) (l : List Standing)
-    → verdictsOf around v (roles k (Head a ∷ l)) ≡ told around 1 (verdictOf around (seriesAt a l)) (endOf (seriesAt a l)) l
-opening around k v a l =
-    ap (λ (z : List Verdict). verdictOf around (seriesAt a l) ∷ z) (go (isPlanned (verdictOf around (seriesAt a l))) (beyond around (seriesAt a l)) around)
+    : (around : Around) (k : ℕ) (v : Verdict) (a : Allocation) (y : Parity) (l : List Standing)
+    → verdictsOf around v (roles k (Head a y ∷ l)) ≡ told around 1 (verdictOf around (seriesAt a y l)) (endOf (seriesAt a y l)) l
+opening around k v a y l =
+    ap (λ (z : List Verdict). verdictOf around (seriesAt a y l) ∷ z) (go (isPlanned (verdictOf around (seriesAt a y l))) (beyond around (seriesAt a y l)) around)
   where
     go
-        : (b : Bool) (x y : Around)
-        → cond b (verdictsOf x (verdictOf around (seriesAt a l)) (roles 1 l)) (verdictsOf y (verdictOf around (seriesAt a l)) (roles 1 l))
-        ≡ verdictsOf (cond b x y) (verdictOf around (seriesAt a l)) (roles 1 l)
-    go true x y = refl
-    go false x y = refl
+        : (b : Bool) (x z : Around)
+        → cond b (verdictsOf x (verdictOf around (seriesAt a y l)) (roles 1 l)) (verdictsOf z (verdictOf around (seriesAt a y l)) (roles 1 l))
+        ≡ verdictsOf (cond b x z) (verdictOf around (seriesAt a y l)) (roles 1 l)
+    go true x z = refl
+    go false x z = refl
 
 joining
-    : (around : Around) (k start words : ℕ) (a : Allocation) (l : List Standing) → 0 < k → k ≤ 15
-    → toTell around (k + 1) start (words + a .grant) l ≡ toTell around k start words (More a ∷ l)
-joining around zero start words a l h f =
+    : (around : Around) (k : ℕ) (y : Parity) (start words : ℕ) (a : Allocation) (l : List Standing) → 0 < k → k ≤ 15
+    → toTell around (k + 1) y start (words + a .grant) l ≡ toTell around k y start words (More a ∷ l)
+joining around zero y start words a l h f =
     let z : ⊥ = omega arith in
     absurd z
-joining around (suc k) start words a l h f =
+joining around (suc k) y start words a l h f =
     let d : 15 - k ≡ suc (15 - suc k) = omega arith in
     let t : ltb (suc k) 16 ≡ true = lt-ltb (suc k) 16 (omega arith) in
     let e : words + a .grant + grants (run (15 - suc k) l) ≡ words + (a .grant + grants (run (15 - suc k) l)) = omega arith in
     rw (add-one (suc k), d, t, e)
-    (shift (suc k) (judged around start (words + (a .grant + grants (run (15 - suc k) l)))) _)
+    (shift (suc k) (judged around y start (sentWords y (words + (a .grant + grants (run (15 - suc k) l))))) _)
 
 -- ---- a series ends
 
@@ -164,33 +166,46 @@ module _ (p : List ℕ) (i : ℕ) where
   -- what is still to come, behind a series that ends
   closing
       : (around : Around) (s : Open) (l : List Standing) → s .entries ≤ i → left (s .entries) l ≡ []
-      → sets (ended p i around s) i (nameNumbers (verdictsOf (behind around s) (judged around (s .start) (s .words)) (roles (s .entries) l)))
-      ≡ sets p (i - s .entries) (nameNumbers (toTell around (s .entries) (s .start) (s .words) l))
+      → sets (ended p i around s) i (nameNumbers (verdictsOf (behind around s) (openVerdict around s) (roles (s .entries) l)))
+      ≡ sets p (i - s .entries) (nameNumbers (toTell around (s .entries) (s .parity) (s .start) (s .words) l))
   closing around s l h stops =
       let e : s .words ≡ s .words + grants (left (s .entries) l) = sym (ap (λ (z : List Allocation). s .words + grants z) stops ∙ add-zero (s .words)) in
-      written-series (s .entries) (judged around (s .start) (s .words)) (verdictsOf (behind around s) (judged around (s .start) (s .words)) (roles (s .entries) l)) h
-      ∙ ap (λ (z : ℕ). sets p (i - s .entries) (nameNumbers (told around (s .entries) (judged around (s .start) z) (s .start + z) l))) e
+      written-series (s .entries) (openVerdict around s) (verdictsOf (behind around s) (openVerdict around s) (roles (s .entries) l)) h
+      ∙ ap (λ (z : ℕ). sets p (i - s .entries) (nameNumbers (told around (s .entries) (judged around (s .parity) (s .start) (sentWords (s .parity) z)) (s .start + sentWords (s .parity) z) l))) e
 
 -- ---- a series that ends, as the code judges it
 
-module _ (around : Around) (s : Open) (v : Verdict) (hv : v ≡ judged around (s .start) (s .words)) where
-  past-open : (k : ℕ) → 0 < k → past k around v (s .start + s .words) ≡ cond (isPlanned v) (record { end = s .start + s .words; bursts = around .bursts + 1 }) around
+module _ (around : Around) (s : Open) (v : Verdict) (hv : v ≡ openVerdict around s) where
+  past-open : (k : ℕ) → 0 < k → past k around v (s .start + openWords s) ≡ cond (isPlanned v) (record { end = s .start + openWords s; bursts = around .bursts + 1 }) around
   past-open zero h =
       let z : ⊥ = omega arith in
       absurd z
   past-open (suc k) h = refl
 
-  behind-by : 0 < s .entries → behind around s ≡ cond (isPlanned v) (record { end = s .start + s .words; bursts = around .bursts + 1 }) around
-  behind-by h = ap (λ (z : Verdict). past (s .entries) around z (s .start + s .words)) (sym hv) ∙ past-open (s .entries) h
+  behind-by : 0 < s .entries → behind around s ≡ cond (isPlanned v) (record { end = s .start + openWords s; bursts = around .bursts + 1 }) around
+  behind-by h = ap (λ (z : Verdict). past (s .entries) around z (s .start + openWords s)) (sym hv) ∙ past-open (s .entries) h
 
-  pub moved : 0 < s .entries → isPlanned v ≡ true → record { end = s .start + s .words; bursts = around .bursts + 1 } ≡ behind around s
-  moved h f = sym (behind-by h ∙ rw f)
+  facts : isPlanned v ≡ true → (openWords s ≤ 9720) × (around .bursts < 4)
+  facts f =
+      let t = planned-facts around (s .parity) (s .start) (openWords s) (ap isPlanned (sym hv) ∙ f) in
+      (t .0, t .2)
+
+  -- the words of one that is planned, as they are counted
+  module _ (e : ℕ) (he : e ≡ countedWords (s .parity) (s .words)) (f : isPlanned v ≡ true) where
+    words-are : e ≡ openWords s
+    words-are = he ∙ counted-sent (s .parity) (s .words) (facts f .0)
+
+    pub words-few : e ≤ 9720
+    words-few = omega (arith, words-are, facts f .0)
+
+    pub moved : 0 < s .entries → record { end = s .start + e; bursts = around .bursts + 1 } ≡ behind around s
+    moved h = ap (λ (z : ℕ). record { end = s .start + z; bursts = around .bursts + 1 }) words-are ∙ sym (behind-by h ∙ rw f)
 
   pub unmoved : 0 < s .entries → isPlanned v ≡ false → around ≡ behind around s
   unmoved h f = sym (behind-by h ∙ rw f)
 
   pub few-before : isPlanned v ≡ true → around .bursts < 4
-  few-before f = planned-facts around (s .start) (s .words) (ap isPlanned (sym hv) ∙ f) .2
+  few-before f = facts f .1
 
   pub series-named : (p q : List ℕ) (i n : ℕ) → n ≡ nameNumber v → q ≡ sets p (i - s .entries) (replicate (s .entries) n) → q ≡ ended p i around s
   series-named p q i n hn hq = hq ∙ ap (λ (z : ℕ). sets p (i - s .entries) (replicate (s .entries) z)) (hn ∙ ap nameNumber hv)
@@ -214,9 +229,9 @@ module _
       let e : i + 1 - 0 ≡ suc i = omega arith in
       rw hr (
         record { small = closed-modest closed refl; lies = omega arith },
-        ap₂ (λ (j : ℕ) (z : List Verdict). sets q j (nameNumbers z)) e (stray (behind (w .around) (w .series)) _ (judged (w .around) (w .series .start) (w .series .words)) (rest own m (i + 1)))
-            ∙ ap (λ (z : List ℕ). sets z (suc i) (nameNumbers (verdictsOf (behind (w .around) (w .series)) (judged (w .around) (w .series .start) (w .series .words)) (roles 0 (rest own m (i + 1)))))) hq
-            ∙ ap (λ (z : List Role). sets (ended p i (w .around) (w .series)) i (nameNumbers (verdictsOf (behind (w .around) (w .series)) (judged (w .around) (w .series .start) (w .series .words)) z))) (sym f)
+        ap₂ (λ (j : ℕ) (z : List Verdict). sets q j (nameNumbers z)) e (stray (behind (w .around) (w .series)) _ (openVerdict (w .around) (w .series)) (rest own m (i + 1)))
+            ∙ ap (λ (z : List ℕ). sets z (suc i) (nameNumbers (verdictsOf (behind (w .around) (w .series)) (openVerdict (w .around) (w .series)) (roles 0 (rest own m (i + 1)))))) hq
+            ∙ ap (λ (z : List Role). sets (ended p i (w .around) (w .series)) i (nameNumbers (verdictsOf (behind (w .around) (w .series)) (openVerdict (w .around) (w .series)) z))) (sym f)
             ∙ closing p i (w .around) (w .series) (rest own m i) (ok .lies) stops,
       )
 
@@ -238,19 +253,19 @@ module _
       (left-full (w .series .entries) (rest own m i) (full f))
 
   pub head-next
-      : (a : Allocation) → x ≡ Head a → (b : Around) (s : Open) → b ≡ behind (w .around) (w .series) → s ≡ opened a → Modest s
+      : (a : Allocation) (y : Parity) → x ≡ Head a y → (b : Around) (s : Open) → b ≡ behind (w .around) (w .series) → s ≡ opened a y → Modest s
       → r ≡ record { around = b; series = s } → q ≡ ended p i (w .around) (w .series)
       → Steady r (i + 1) × (namedFrom own m q (i + 1) r ≡ namedFrom own m p i w)
-  head-next a e b s hb hs small hr hq =
+  head-next a y e b s hb hs small hr hq =
       let d : i + 1 - 1 ≡ i = omega arith in
       let f : wordsOf a 0 + grants (run 15 (rest own m (i + 1))) ≡ wordsOf a (grants (run 15 (rest own m (i + 1)))) = more-words a 0 (grants (run 15 (rest own m (i + 1)))) ∙ ap (wordsOf a) (zero-add (grants (run 15 (rest own m (i + 1))))) in
       rw hr (
         record { small = small; lies = rw hs (omega arith) },
         rw (hs, hb, hq)
-            (ap₂ (λ (j z : ℕ). sets (ended p i (w .around) (w .series)) j (nameNumbers (told (behind (w .around) (w .series)) 1 (judged (behind (w .around) (w .series)) (a .start) z) (a .start + z) (rest own m (i + 1))))) d f
-            ∙ ap (λ (z : List Verdict). sets (ended p i (w .around) (w .series)) i (nameNumbers z)) (sym (opening (behind (w .around) (w .series)) (w .series .entries) (judged (w .around) (w .series .start) (w .series .words)) a (rest own m (i + 1))))
-            ∙ ap (λ (z : List Standing). sets (ended p i (w .around) (w .series)) i (nameNumbers (verdictsOf (behind (w .around) (w .series)) (judged (w .around) (w .series .start) (w .series .words)) (roles (w .series .entries) z)))) (sym (here (Head a) e))
-            ∙ closing p i (w .around) (w .series) (rest own m i) (ok .lies) (ap (left (w .series .entries)) (here (Head a) e) ∙ left-head (w .series .entries) a (rest own m (i + 1)))),
+            (ap₂ (λ (j z : ℕ). sets (ended p i (w .around) (w .series)) j (nameNumbers (told (behind (w .around) (w .series)) 1 (judged (behind (w .around) (w .series)) y (a .start) (sentWords y z)) (a .start + sentWords y z) (rest own m (i + 1))))) d f
+            ∙ ap (λ (z : List Verdict). sets (ended p i (w .around) (w .series)) i (nameNumbers z)) (sym (opening (behind (w .around) (w .series)) (w .series .entries) (openVerdict (w .around) (w .series)) a y (rest own m (i + 1))))
+            ∙ ap (λ (z : List Standing). sets (ended p i (w .around) (w .series)) i (nameNumbers (verdictsOf (behind (w .around) (w .series)) (openVerdict (w .around) (w .series)) (roles (w .series .entries) z)))) (sym (here (Head a y) e))
+            ∙ closing p i (w .around) (w .series) (rest own m i) (ok .lies) (ap (left (w .series .entries)) (here (Head a y) e) ∙ left-head (w .series .entries) a y (rest own m (i + 1)))),
       )
 
   pub more-next
@@ -263,8 +278,8 @@ module _
       rw hr (
         record { small = small; lies = rw hs (omega (arith, ok .lies)) },
         rw (hs, hq)
-            (ap₂ (λ (j : ℕ) (z : List Verdict). sets p j (nameNumbers z)) d (joining (w .around) (w .series .entries) (w .series .start) (w .series .words) a (rest own m (i + 1)) (g .0) (g .1))
-            ∙ ap (λ (z : List Standing). sets p (i - w .series .entries) (nameNumbers (toTell (w .around) (w .series .entries) (w .series .start) (w .series .words) z))) (sym (here (More a) e))),
+            (ap₂ (λ (j : ℕ) (z : List Verdict). sets p j (nameNumbers z)) d (joining (w .around) (w .series .entries) (w .series .parity) (w .series .start) (w .series .words) a (rest own m (i + 1)) (g .0) (g .1))
+            ∙ ap (λ (z : List Standing). sets p (i - w .series .entries) (nameNumbers (toTell (w .around) (w .series .entries) (w .series .parity) (w .series .start) (w .series .words) z))) (sym (here (More a) e))),
       )
 
 -- ---- the whole walk
@@ -287,7 +302,7 @@ module _ (own : Own) (m : List ℕ) where
       : (p q : List ℕ) (i : ℕ) (w : Course) → entryCount m ≤ i → Steady w i → q ≡ ended p i (w .around) (w .series) → q ≡ namedFrom own m p i w
   all-named p q i w h ok hq =
       hq ∙ closing p i (w .around) (w .series) [] (ok .lies) (left-nil (w .series .entries))
-      ∙ ap (λ (z : List Standing). sets p (i - w .series .entries) (nameNumbers (toTell (w .around) (w .series .entries) (w .series .start) (w .series .words) z))) (sym (rest-nil own m i h))
+      ∙ ap (λ (z : List Standing). sets p (i - w .series .entries) (nameNumbers (toTell (w .around) (w .series .entries) (w .series .parity) (w .series .start) (w .series .words) z))) (sym (rest-nil own m i h))
 
   length-names : (carried : ℕ) → length (namesOf own m carried) ≡ entryCount m
   length-names carried = length-verdicts (outset carried) ContinuingNothing 0 (standingsFrom own m 0 (entryCount m)) ∙ length-standings own m 0 (entryCount m)

@@ -20,18 +20,19 @@ use Rattle.station.specs.Limits.{upstreamWords}
 use Rattle.entries.specs.Limits.{structureOctets, lastStart}
 use Rattle.entries.specs.declared.Own.{Own}
 use Rattle.entries.specs.declared.Verdict.{Verdict}
-use Rattle.entries.specs.declared.Verdict.the-variants.{Planned, Unreadable, StartTimeUnfit, DbruWithoutRoom, Foreign, ContinuingNothing, Seventeenth, TooLong, Overlapping, AfterTheLast, Silent}
+use Rattle.entries.specs.declared.Verdict.the-variants.{Planned, Unreadable, StartTimeUnfit, DbruWithoutRoom, Foreign, ContinuingNothing, Seventeenth, TooLong, Overlapping, AfterTheLast, Silent, ProfileNotReceived}
 use Rattle.entries.specs.declared.Standing.{Standing}
 use Rattle.entries.specs.declared.Standing.the-variants.{Apart, Head, More}
 use Rattle.entries.specs.Standings.{standing, isPlanned, Mine}
-use Rattle.entries.proofs.Facts.{ours-is, standsAs, head-start}
+use Rattle.entries.proofs.Facts.{head-is, head-parity, more-is, head-start}
 use Rattle.series.specs.Limits.{wordsABurst, burstsAFrame, entriesABurst}
 use Rattle.series.specs.declared.Around.{Around}
-use Rattle.series.specs.Series.{Series, entryAt, entryCount, standingsFrom, standings, run, seriesOf, burstWords, endOf, outset, beyond, judged, verdictOf, planned, lastEnd, carriedOver, plannedOf}
+use Rattle.series.specs.Series.{Series, entryAt, entryCount, standingsFrom, standings, run, seriesOf, burstWords, endOf, unknown, outset, beyond, judged, verdictOf, planned, lastEnd, carriedOver, plannedOf}
 use Rattle.plan.specs.Plan.{entriesIn, records}
 use Rattle.bwmap.specs.Promises.{Follow, SeriesIn, Every, Because, Account}
-use Rattle.bwmap.specs.Promises.Account.{done, plans, too-long, overlapping, after-the-last}
+use Rattle.bwmap.specs.Promises.Account.{done, plans, not-received, too-long, overlapping, after-the-last}
 use Rattle.series.proofs.Runs.{run-length}
+use Rattle.series.proofs.Parity.{unreceived, received}
 use Rattle.series.proofs.Judged.{planned-facts}
 
 -- ---- fields of a word that was read
@@ -61,9 +62,6 @@ entry-start m i h e = read-start h (drop (structureOctets * i) m) e
 -- ---- whose a series is
 
 module _ (own : Own) (m : List ℕ) where
-  mine : (i : ℕ) (a : Allocation) (more : Bool) → standing own (entryAt m i) ≡ standsAs more a → Mine own (entryAt m i) a more
-  mine i a more e = ours-is own (entryAt m i) a more e
-
   pub follow : (k i j : ℕ) → i + j ≤ entryCount m → Follow own m i (run k (standingsFrom own m i j))
   follow zero i j h = tt
   follow (suc k) i zero h = tt
@@ -72,8 +70,8 @@ module _ (own : Own) (m : List ℕ) where
       go : (x : Standing) → standing own (entryAt m i) ≡ x → Follow own m (suc i) (run k (standingsFrom own m (suc i) j))
           → Follow own m i (run (suc k) (x ∷ standingsFrom own m (suc i) j))
       go (Apart v) e f = tt
-      go (Head a) e f = tt
-      go (More a) e f = (omega arith, mine i a true e, rw (add-one i) f)
+      go (Head a y) e f = tt
+      go (More a) e f = (omega arith, more-is own (entryAt m i) a e, rw (add-one i) f)
 
   series-in : (i j : ℕ) → i + j ≤ entryCount m → Every (SeriesIn own m) (seriesOf (standingsFrom own m i j))
   series-in i zero h = tt
@@ -83,8 +81,8 @@ module _ (own : Own) (m : List ℕ) where
           → Every (SeriesIn own m) (seriesOf (x ∷ standingsFrom own m (suc i) j))
       go (Apart v) e r = r
       go (More a) e r = r
-      go (Head a) e r =
-          let head : Mine own (entryAt m i) a false = mine i a false e in
+      go (Head a y) e r =
+          let head : Mine own (entryAt m i) a false = head-is own (entryAt m i) a y e in
           let few = run-length 15 (standingsFrom own m (suc i) j) .1 in (
             record {
               at = i;
@@ -93,6 +91,7 @@ module _ (own : Own) (m : List ℕ) where
               more = rw (add-one i) (follow 15 (suc i) j (omega arith));
               few = omega arith;
               start = head-start a (entry-start m i a (head .read)) (head .fit) (head .kind);
+              parity = head-parity own (entryAt m i) a y e;
             },
             r,
           )
@@ -118,22 +117,24 @@ module _ (own : Own) (m : List ℕ) where
 -- ---- why
 
 because-of
-    : (around : Around) (s : Series) (a b d : Bool) → ltb wordsABurst (burstWords s) ≡ a → ltb (s .head .start) (around .end) ≡ b → leb burstsAFrame (around .bursts) ≡ d
-    → Because around s (cond a TooLong (cond b Overlapping (cond d AfterTheLast Planned)))
-because-of around s true b d p q r = ltb-true wordsABurst (burstWords s) p
-because-of around s false true d p q r = (ltb-false wordsABurst (burstWords s) p, ltb-true (s .head .start) (around .end) q)
-because-of around s false false true p q r = (ltb-false wordsABurst (burstWords s) p, ltb-false (s .head .start) (around .end) q, leb-true burstsAFrame (around .bursts) r)
-because-of around s false false false p q r = (ltb-false wordsABurst (burstWords s) p, ltb-false (s .head .start) (around .end) q, leb-false burstsAFrame (around .bursts) r)
+    : (around : Around) (s : Series) (u a b d : Bool) → unknown (s .parity) ≡ u → ltb wordsABurst (burstWords s) ≡ a → ltb (s .head .start) (around .end) ≡ b → leb burstsAFrame (around .bursts) ≡ d
+    → Because around s (cond u ProfileNotReceived (cond a TooLong (cond b Overlapping (cond d AfterTheLast Planned))))
+because-of around s true a b d o p q r = unreceived (s .parity) o
+because-of around s false true b d o p q r = (received (s .parity) o, ltb-true wordsABurst (burstWords s) p)
+because-of around s false false true d o p q r = (received (s .parity) o, ltb-false wordsABurst (burstWords s) p, ltb-true (s .head .start) (around .end) q)
+because-of around s false false false true o p q r = (received (s .parity) o, ltb-false wordsABurst (burstWords s) p, ltb-false (s .head .start) (around .end) q, leb-true burstsAFrame (around .bursts) r)
+because-of around s false false false false o p q r = (received (s .parity) o, ltb-false wordsABurst (burstWords s) p, ltb-false (s .head .start) (around .end) q, leb-false burstsAFrame (around .bursts) r)
 
 -- the verdict on a series is its first reason
 pub first-reason : (around : Around) (s : Series) → Because around s (verdictOf around s)
 unfolding judged
-first-reason around s = because-of around s (ltb wordsABurst (burstWords s)) (ltb (s .head .start) (around .end)) (leb burstsAFrame (around .bursts)) refl refl refl
+first-reason around s = because-of around s (unknown (s .parity)) (ltb wordsABurst (burstWords s)) (ltb (s .head .start) (around .end)) (leb burstsAFrame (around .bursts)) refl refl refl refl
 
 account-one
     : (around : Around) (s : Series) (l : List Series) (v : Verdict) → Because around s v → Account (beyond around s) l (planned (beyond around s) l) → Account around l (planned around l)
     → Account around (s ∷ l) (cond (isPlanned v) (s ∷ planned (beyond around s) l) (planned around l))
 account-one around s l Planned h x y = plans h x
+account-one around s l ProfileNotReceived h x y = not-received h y
 account-one around s l TooLong h x y = too-long h y
 account-one around s l Overlapping h x y = overlapping h y
 account-one around s l AfterTheLast h x y = after-the-last h y
@@ -162,7 +163,7 @@ planned-few around (s ∷ l) h = go (isPlanned (verdictOf around s)) refl (plann
     go : (b : Bool) → isPlanned (verdictOf around s) ≡ b → (around .bursts + 1 ≤ burstsAFrame → around .bursts + 1 + length (planned (beyond around s) l) ≤ burstsAFrame) → around .bursts + length (planned around l) ≤ burstsAFrame
         → around .bursts + length (cond b (s ∷ planned (beyond around s) l) (planned around l)) ≤ burstsAFrame
     go true t x y =
-        let f = planned-facts around (s .head .start) (burstWords s) t in
+        let f = planned-facts around (s .parity) (s .head .start) (burstWords s) t in
         let z = x (omega arith) in
         omega arith
     go false t x y = y
@@ -196,7 +197,7 @@ end-low P f around (s ∷ l) h le = go (isPlanned (verdictOf around s)) refl (en
     go : (b : Bool) → isPlanned (verdictOf around s) ≡ b → (endOf s < 2 * upstreamWords → lastEnd (endOf s) (planned (beyond around s) l) < 2 * upstreamWords)
         → lastEnd (around .end) (planned around l) < 2 * upstreamWords → lastEnd (around .end) (cond b (s ∷ planned (beyond around s) l) (planned around l)) < 2 * upstreamWords
     go true t x y =
-        let k = planned-facts around (s .head .start) (burstWords s) t in
+        let k = planned-facts around (s .parity) (s .head .start) (burstWords s) t in
         let z = f s (h .0) in
         x (omega arith)
     go false t x y = y

@@ -10,6 +10,7 @@ use lib.ListN.{length, take, drop}
 use lib.Seq.{sets}
 use borrow.Rule.Slice.PartMut.{putMid}
 use Rattle.xgtc.specs.declared.allocation.Allocation.{Allocation}
+use Rattle.link.specs.declared.Parity.{Parity}
 use Rattle.entries.specs.declared.Own.{Own}
 use Rattle.entries.specs.declared.Verdict.{Verdict}
 use Rattle.entries.specs.declared.Standing.{Standing}
@@ -65,8 +66,8 @@ module _ (own : Own) (m : List ℕ) (i k : ℕ) where
       rw e
 
   module _ (x : Standing) (h : i < entryCount m) (p : x ≡ standing own (entryAt m i)) where
-    pub stop-head : (a : Allocation) → x ≡ Head a → run (15 - k) (rest own m i) ≡ []
-    stop-head a q = rw (rest-cons own m i h, ← p, q, run-head)
+    pub stop-head : (a : Allocation) (y : Parity) → x ≡ Head a y → run (15 - k) (rest own m i) ≡ []
+    stop-head a y q = rw (rest-cons own m i h, ← p, q, run-head)
 
     pub stop-apart : (v : Verdict) → x ≡ Apart v → run (15 - k) (rest own m i) ≡ []
     stop-apart v q = rw (rest-cons own m i h, ← p, q, run-apart)
@@ -112,6 +113,6 @@ write-done p at h l e = rw e
 pub write-head
     : (p q r : List ℕ) (at k f : ℕ) (h : Allocation) (l : List Allocation) → at + 4 ≤ length p → k ≡ 4 → f ≡ headFlags h
     → q ≡ putMid at k p (placed (take k (drop at p)) 0 h f (h .start)) → r ≡ sets q (at + 4) (moreNumbers h l)
-    → r ≡ sets p at (seriesNumbers (record { head = h; more = l }))
+    → r ≡ sets p at (seriesNumbers h l)
 unfolding seriesNumbers
 write-head p q r at k f h l room four hf hq hr = hr ∙ rw (hq ∙ placed-part p at k h f (h .start) room four, hf, add-four)

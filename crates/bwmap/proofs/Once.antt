@@ -40,7 +40,7 @@ planned-apart o around (s ∷ l) = go (isPlanned (verdictOf around s)) refl (pla
         → Apart (o + around .end) (bursts o (planned around l))
         → Apart (o + around .end) (bursts o (cond b (s ∷ planned (beyond around s) l) (planned around l)))
     go true t x y =
-        let f = planned-facts around (s .head .start) (burstWords s) t in
+        let f = planned-facts around (s .parity) (s .head .start) (burstWords s) t in
         (omega arith, apart-from (o + s .head .start + burstWords s) (o + endOf s) (bursts o (planned (beyond around s) l)) (omega arith) x)
     go false t x y = y
 

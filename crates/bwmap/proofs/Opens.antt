@@ -8,20 +8,22 @@ use native.Mathlib.Omega.{arith}
 use lib.ListN.{length}
 use lib.Seq.{sets}
 use Rattle.xgtc.specs.declared.allocation.Allocation.{Allocation}
+use Rattle.link.specs.declared.Parity.{Parity}
 use Rattle.entries.specs.declared.Own.{Own}
 use Rattle.entries.specs.declared.Verdict.{Verdict}
 use Rattle.entries.specs.declared.Standing.{Standing}
 use Rattle.entries.specs.declared.Standing.the-variants.{Apart, Head, More}
 use Rattle.entries.specs.Standings.{standing, isPlanned}
-use Rattle.entries.proofs.Facts.{ours-is}
+use Rattle.entries.proofs.Facts.{head-is, more-is}
 use Rattle.series.specs.declared.Around.{Around}
-use Rattle.series.specs.Series.{Series, entryAt, entryCount, standingsFrom, run, seriesAt, seriesOf, judged, planned}
+use Rattle.series.specs.Series.{entryAt, entryCount, standingsFrom, run, seriesOf, planned}
 use Rattle.plan.specs.Records.{mark}
 use Rattle.plan.specs.Plan.{seriesNumbers}
-use Rattle.series.specs.Opens.{closed, opened, joined, goesOn, fits}
+use Rattle.series.specs.Opens.{closed, opened, joined, goesOn, countedWords, openWords, openVerdict, fits}
 use Rattle.bwmap.specs.Turns.{rest, Run, tally, Running, Stage, between, within, Reached, fieldsOf, allocationAt, allocationsFrom, toCome}
 use Rattle.series.specs.declared.Open.{Open}
 use Rattle.bwmap.specs.declared.Walk.{Walk}
+use Rattle.series.proofs.Parity.{counted-sent}
 use Rattle.series.proofs.Judged.{planned-facts}
 use Rattle.series.proofs.Opens.{goes-on-facts, full-or-none, fits-facts, unfit, more-words}
 use Rattle.bwmap.proofs.Laws.{rest-nil, pass-apart, pass-more, stop-end, stop-full, stop-head, stop-apart, go-on, tally-step, tally-done}
@@ -48,10 +50,10 @@ module _ (own : Own) (m : List ℕ) (around : Around) (from i : ℕ) (s : Open) 
   shut (within r p) stops f =
       let d = stops (r .more) (ap (λ (x : Open). x .entries) (r .is)) in
       let so = counted-so r d in
-      let u : isPlanned (judged around (s .start) (s .words)) ≡ false = unfit around s (omega (arith, ap (λ (x : Open). x .entries) (r .is))) f in
-      let v = judged-so own m (r .at) (r .head) (r .lies) (r .stands) (counted r d) so around (s .start) (s .words) (ap (λ (x : Open). x .start) (r .is)) (ap (λ (x : Open). x .words) (r .is)) in
+      let u : isPlanned (openVerdict around s) ≡ false = unfit around s (omega (arith, ap (λ (x : Open). x .entries) (r .is))) f in
+      let v = judged-so own m (r .at) (r .head) (r .parity) (r .lies) (r .stands) (counted r d) so around s (ap (λ (x : Open). x .start) (r .is)) (ap (λ (x : Open). x .words) (r .is)) (ap (λ (x : Open). x .parity) (r .is)) in
       ap (λ (j : ℕ). planned around (seriesOf (rest own m j))) (r .here)
-      ∙ pass-series own m (r .at) (r .head) (r .lies) (r .stands) (counted r d) so around (ap isPlanned (sym v) ∙ u)
+      ∙ pass-series own m (r .at) (r .head) (r .parity) (r .lies) (r .stands) (counted r d) so around (ap isPlanned (sym v) ∙ u)
       ∙ p
 
   -- at the end of the map, or before an entry that does not go it on, a series that fits is the next one planned
@@ -73,8 +75,8 @@ module _ (own : Own) (m : List ℕ) (around : Around) (from i : ℕ) (s : Open) 
   ended h k q = stop-end own m i k h
 
   module _ (x : Standing) (h : i < entryCount m) (p : x ≡ standing own (entryAt m i)) where
-    pub head-stops : (a : Allocation) → x ≡ Head a → Stops own m i s
-    head-stops a q k o = stop-head own m i k x h p a q
+    pub head-stops : (a : Allocation) (y : Parity) → x ≡ Head a y → Stops own m i s
+    head-stops a y q k o = stop-head own m i k x h p a y q
 
     pub apart-stops : (v : Verdict) → x ≡ Apart v → Stops own m i s
     apart-stops v q k o = stop-apart own m i k x h p v q
@@ -83,10 +85,10 @@ module _ (own : Own) (m : List ℕ) (around : Around) (from i : ℕ) (s : Open) 
     more-stops f k o = stop-full own m i k (full-or-none s k f o)
 
     pub open-next
-        : (a : Allocation) (s′ : Open) → x ≡ Head a → s′ ≡ opened a → from ≤ i → Stage own m around from i s → fits around s ≡ false → Stage own m around from (i + 1) s′
-    open-next a s′ q is after g f =
-        within (record { at = i; head = a; more = 0; grants = 0; after = after; lies = h; stands = sym p ∙ q; here = omega arith; few = omega arith; is = is; so-far = refl })
-        (shut g (head-stops a q) f)
+        : (a : Allocation) (y : Parity) (s′ : Open) → x ≡ Head a y → s′ ≡ opened a y → from ≤ i → Stage own m around from i s → fits around s ≡ false → Stage own m around from (i + 1) s′
+    open-next a y s′ q is after g f =
+        within (record { at = i; head = a; parity = y; more = 0; grants = 0; after = after; lies = h; stands = sym p ∙ q; here = omega arith; few = omega arith; is = is; so-far = refl })
+        (shut g (head-stops a y q) f)
 
     pub pass-stray
         : (a : Allocation) (s′ : Open) → x ≡ More a → s′ ≡ closed → goesOn s ≡ false → Stage own m around from i s → fits around s ≡ false → Stage own m around from (i + 1) s′
@@ -107,6 +109,7 @@ module _ (own : Own) (m : List ℕ) (around : Around) (from i : ℕ) (s : Open) 
         (record {
           at = r .at;
           head = r .head;
+          parity = r .parity;
           more = r .more + 1;
           grants = r .grants + a .grant;
           after = r .after;
@@ -116,7 +119,7 @@ module _ (own : Own) (m : List ℕ) (around : Around) (from i : ℕ) (s : Open) 
           few = omega arith;
           is =
               is ∙ ap (λ (z : Open). joined z a) (r .is)
-              ∙ ap (λ (z : ℕ). record { entries = r .more + 1 + 1; start = r .head .start; words = z }) (more-words (r .head) (r .grants) (a .grant));
+              ∙ ap (λ (z : ℕ). record { entries = r .more + 1 + 1; start = r .head .start; words = z; parity = r .parity }) (more-words (r .head) (r .grants) (a .grant));
           so-far =
               tally-step (r .more) (r .grants) (a .grant) a _ _ (go-on own m i (r .more) x h p a (i + 1) q t refl) refl
               ∙ r .so-far;
@@ -128,11 +131,11 @@ module _ (own : Own) (m : List ℕ) (around : Around) (from i : ℕ) (s : Open) 
 module _ (own : Own) (m : List ℕ) where
   allocation-is : (i : ℕ) (a : Allocation) → standing own (entryAt m i) ≡ More a → allocationAt m i ≡ a
   unfolding allocationAt
-  allocation-is i a q = ap fieldsOf (ours-is own (entryAt m i) a true q .read)
+  allocation-is i a q = ap fieldsOf (more-is own (entryAt m i) a q .read)
 
-  head-is : (i : ℕ) (a : Allocation) → standing own (entryAt m i) ≡ Head a → allocationAt m i ≡ a
+  head-at : (i : ℕ) (a : Allocation) (y : Parity) → standing own (entryAt m i) ≡ Head a y → allocationAt m i ≡ a
   unfolding allocationAt
-  head-is i a q = ap fieldsOf (ours-is own (entryAt m i) a false q .read)
+  head-at i a y q = ap fieldsOf (head-is own (entryAt m i) a y q .read)
 
   -- what continues a head reads as it stands
   allocations-are : (k i c : ℕ) → allocationsFrom m i (length (run k (standingsFrom own m i c))) ≡ run k (standingsFrom own m i c)
@@ -144,7 +147,7 @@ module _ (own : Own) (m : List ℕ) where
           → allocationsFrom m (suc i) (length (run k (standingsFrom own m (suc i) c))) ≡ run k (standingsFrom own m (suc i) c)
           → allocationsFrom m i (length (run (suc k) (x ∷ standingsFrom own m (suc i) c))) ≡ run (suc k) (x ∷ standingsFrom own m (suc i) c)
       go (Apart v) q ih = refl
-      go (Head a) q ih = refl
+      go (Head a y) q ih = refl
       go (More a) q ih = ap₂ _∷_ (allocation-is i a q) ih
 
 module _ (own : Own) (m p : List ℕ) (w : Walk) (i : ℕ) (s : Open) (d : Reached own m (w .around) (w .at) i s) where
@@ -171,32 +174,38 @@ module _ (own : Own) (m p : List ℕ) (w : Walk) (i : ℕ) (s : Open) (d : Reach
 
   -- its numbers, and those of the walk
   pub sizes
-      : (1 ≤ s .entries) × (s .entries ≤ 16) × (s .entries ≤ i) × (w .at < i) × (i ≤ entryCount m) × (s .start ≤ 9719) × (s .words ≤ 9720) × (w .around .bursts < 4)
+      : (1 ≤ s .entries) × (s .entries ≤ 16) × (s .entries ≤ i) × (w .at < i) × (i ≤ entryCount m) × (s .start ≤ 9719) × (w .around .bursts < 4)
   sizes =
       let wide : r .head .start < 2 ^ 16 = omega (arith, starts, d .low) in
-      let low = head-low own m (r .at) (r .head) (r .lies) (r .stands) read read-so wide in
-      let f = planned-facts (w .around) (s .start) (s .words) (d .fit) in
-      (omega (arith, entries-are), omega (arith, entries-are, r .few), omega (arith, entries-are, r .here), omega (arith, r .after, r .here), d .ends, omega (arith, starts, low), f .0, f .2)
+      let low = head-low own m (r .at) (r .head) (r .parity) (r .lies) (r .stands) read read-so wide in
+      let f = planned-facts (w .around) (s .parity) (s .start) (openWords s) (d .fit) in
+      (omega (arith, entries-are), omega (arith, entries-are, r .few), omega (arith, entries-are, r .here), omega (arith, r .after, r .here), d .ends, omega (arith, starts, low), f .2)
+
+  -- the words that its burst takes, as they are counted
+  module _ (e : ℕ) (he : e ≡ countedWords (s .parity) (s .words)) where
+    words-are : e ≡ openWords s
+    words-are = he ∙ counted-sent (s .parity) (s .words) (planned-facts (w .around) (s .parity) (s .start) (openWords s) (d .fit) .0)
+
+    pub words-low : e ≤ 9720
+    words-low = omega (arith, words-are, planned-facts (w .around) (s .parity) (s .start) (openWords s) (d .fit) .0)
 
   module _ (h : Allocation) (hh : h ≡ allocationAt m (i - s .entries)) where
     head-so : h ≡ r .head
-    head-so = hh ∙ ap (allocationAt m) place-is ∙ head-is own m (r .at) (r .head) (r .stands)
+    head-so = hh ∙ ap (allocationAt m) place-is ∙ head-at own m (r .at) (r .head) (r .parity) (r .stands)
 
     more-so : allocationsFrom m (i - s .entries + 1) (s .entries - 1) ≡ run 15 (rest own m (r .at + 1))
     more-so =
-        ap₂ (λ (j k : ℕ). allocationsFrom m (j + 1) k) place-is (more-are ∙ count-is own m (r .at) (r .head) (r .lies) (r .stands) read read-so)
+        ap₂ (λ (j k : ℕ). allocationsFrom m (j + 1) k) place-is (more-are ∙ count-is own m (r .at) (r .head) (r .parity) (r .lies) (r .stands) read read-so)
         ∙ allocations-are own m 15 (r .at + 1) (entryCount m - (r .at + 1))
 
-    series-so : _≡_ {A = Series} (record { head = h; more = allocationsFrom m (i - s .entries + 1) (s .entries - 1) }) (seriesAt (r .head) (rest own m (r .at + 1)))
-    series-so = λ j. record { head = head-so j; more = more-so j }
-
     pub plan-next
-        : (q : List ℕ) (x : ℕ) → q ≡ sets p (4 * w .records) (seriesNumbers (record { head = h; more = allocationsFrom m (i - s .entries + 1) (s .entries - 1) }))
-        → x ≡ mark (h .ploamu) 1
-        → toCome own m q (record { at = i; records = w .records + (s .entries - 1 + 1); messages = w .messages + x; around = record { end = s .start + s .words; bursts = w .around .bursts + 1 } })
+        : (q : List ℕ) (x e : ℕ) → q ≡ sets p (4 * w .records) (seriesNumbers h (allocationsFrom m (i - s .entries + 1) (s .entries - 1)))
+        → x ≡ mark (h .ploamu) 1 → e ≡ countedWords (s .parity) (s .words)
+        → toCome own m q (record { at = i; records = w .records + (s .entries - 1 + 1); messages = w .messages + x; around = record { end = s .start + e; bursts = w .around .bursts + 1 } })
         ≡ toCome own m p w
-    plan-next q x hq hx =
-        ap₂ (λ (j k : ℕ). toCome own m q (record { at = j; records = w .records + (k + 1); messages = w .messages + x; around = record { end = s .start + s .words; bursts = w .around .bursts + 1 } })) (r .here) more-are
-        ∙ plan-series own m (r .at) (r .head) (r .lies) (r .stands) read read-so p q w (s .start) (s .words) x starts (ap (λ (z : Open). z .words) (r .is)) (d .fit) (d .next)
-        (hq ∙ ap (λ (z : Series). sets p (4 * w .records) (seriesNumbers z)) series-so)
+    plan-next q x e hq hx he =
+        ap (λ (z : ℕ). toCome own m q (record { at = i; records = w .records + (s .entries - 1 + 1); messages = w .messages + x; around = record { end = s .start + z; bursts = w .around .bursts + 1 } })) (words-are e he)
+        ∙ ap₂ (λ (j k : ℕ). toCome own m q (record { at = j; records = w .records + (k + 1); messages = w .messages + x; around = record { end = s .start + openWords s; bursts = w .around .bursts + 1 } })) (r .here) more-are
+        ∙ plan-series own m (r .at) (r .head) (r .parity) (r .lies) (r .stands) read read-so p q w s x starts (ap (λ (z : Open). z .words) (r .is)) (ap (λ (z : Open). z .parity) (r .is)) (d .fit) (d .next)
+        (hq ∙ ap₂ (λ (a : Allocation) (l : List Allocation). sets p (4 * w .records) (seriesNumbers a l)) head-so more-so)
         (hx ∙ ap (λ (a : Allocation). mark (a .ploamu) 1) head-so)

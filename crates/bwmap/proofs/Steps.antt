@@ -9,15 +9,18 @@ use native.Mathlib.Nat.{add-zero, zero-add, sub-zero}
 use lib.ListN.{length, drop}
 use lib.Seq.{sets, sets-eq}
 use Rattle.xgtc.specs.declared.allocation.Allocation.{Allocation}
+use Rattle.link.specs.declared.Parity.{Parity}
 use Rattle.entries.specs.declared.Own.{Own}
 use Rattle.entries.specs.declared.Standing.the-variants.{Head}
 use Rattle.entries.specs.Standings.{standing, isPlanned}
 use Rattle.station.specs.States.{silent}
-use Rattle.entries.proofs.Facts.{ours-is, head-start, silent-apart}
+use Rattle.entries.proofs.Facts.{head-is, head-start, silent-apart}
 use Rattle.series.specs.Limits.{burstsAFrame}
 use Rattle.plan.specs.Limits.{planNumbers}
 use Rattle.series.specs.declared.Around.{Around}
-use Rattle.series.specs.Series.{Series, entryAt, entryCount, standingsFrom, run, seriesAt, seriesOf, grants, wordsOf, endOf, outset, beyond, judged, verdictOf, planned, lastEnd, carriedOver, plannedOf}
+use Rattle.series.specs.declared.Open.{Open}
+use Rattle.series.specs.Opens.{openWords, openVerdict}
+use Rattle.series.specs.Series.{Series, entryAt, entryCount, standingsFrom, run, seriesAt, seriesOf, grants, wordsOf, endOf, outset, beyond, verdictOf, planned, lastEnd, carriedOver, plannedOf}
 use Rattle.plan.specs.Records.{mark}
 use Rattle.plan.specs.Plan.{seriesNumbers, numbers, entriesIn, records, messages, written}
 use Rattle.bwmap.specs.Plan.{PlanLeft, counted}
@@ -63,14 +66,14 @@ module _ (own : Own) (m : List ℕ) where
 -- ---- an finished, one burst at a time
 
 finished-cons
-    : (p q : List ℕ) (w w′ : Walk) (s : Series) (l : List Series) → q ≡ sets p (4 * w .records) (seriesNumbers s)
+    : (p q : List ℕ) (w w′ : Walk) (s : Series) (l : List Series) → q ≡ sets p (4 * w .records) (seriesNumbers (s .head) (s .more))
     → w′ .records ≡ w .records + entriesIn s → w′ .messages ≡ w .messages + mark (s .head .ploamu) 1 → w′ .around ≡ beyond (w .around) s
     → finished q w′ l ≡ finished p w (s ∷ l)
 finished-cons p q w w′ s l hq hr hm ha =
     let a = length-series s in
-    let at : 4 * w′ .records ≡ 4 * w .records + length (seriesNumbers s) = omega arith in
-    let f : sets q (4 * w′ .records) (numbers l) ≡ sets p (4 * w .records) (seriesNumbers s ++ numbers l) =
-    rw (hq, at) (sym (sets-append p (4 * w .records) (seriesNumbers s) (numbers l)))
+    let at : 4 * w′ .records ≡ 4 * w .records + length (seriesNumbers (s .head) (s .more)) = omega arith in
+    let f : sets q (4 * w′ .records) (numbers l) ≡ sets p (4 * w .records) (seriesNumbers (s .head) (s .more) ++ numbers l) =
+    rw (hq, at) (sym (sets-append p (4 * w .records) (seriesNumbers (s .head) (s .more)) (numbers l)))
     in
     let b : w′ .records + records l ≡ w .records + (entriesIn s + records l) = omega arith in
     let hb : w′ .around .bursts ≡ w .around .bursts + 1 = ap (λ (a : Around). a .bursts) ha in
@@ -82,9 +85,9 @@ finished-cons p q w w′ s l hq hr hm ha =
 -- ---- one series
 
 module _
-    (own : Own) (m : List ℕ) (at : ℕ) (h : Allocation) (lies : at < entryCount m) (heads : standing own (entryAt m at) ≡ Head h)
+    (own : Own) (m : List ℕ) (at : ℕ) (h : Allocation) (y : Parity) (lies : at < entryCount m) (heads : standing own (entryAt m at) ≡ Head h y)
     (r : Run) (hr : r ≡ tally 0 0 (run 15 (rest own m (at + 1)))) where
-  here : rest own m at ≡ Head h ∷ rest own m (at + 1)
+  here : rest own m at ≡ Head h y ∷ rest own m (at + 1)
   here = rw (rest-cons own m at lies, heads)
 
   pub count-is : r .count ≡ length (run 15 (rest own m (at + 1)))
@@ -100,36 +103,38 @@ module _
 
   pub head-low : h .start < 2 ^ 16 → h .start ≤ 9719
   head-low wide =
-      let o = ours-is own (entryAt m at) h false heads in
+      let o = head-is own (entryAt m at) h y heads in
       head-start h wide (o .fit) (o .kind)
 
   behind : seriesOf (rest own m (at + 1 + r .count)) ≡ seriesOf (rest own m (at + 1))
   behind = skip own m (at + 1) (r .count) count-is
 
-  pub judged-so : (around : Around) (start words : ℕ) → start ≡ h .start → words ≡ wordsOf h (r .grants) → judged around start words ≡ verdictOf around (seriesAt h (rest own m (at + 1)))
-  judged-so around start words hs hw = cc (hs, hw, grants-are)
+  pub judged-so
+      : (around : Around) (s : Open) → s .start ≡ h .start → s .words ≡ wordsOf h (r .grants) → s .parity ≡ y
+      → openVerdict around s ≡ verdictOf around (seriesAt h y (rest own m (at + 1)))
+  judged-so around s hs hw hy = cc (hs, hw, hy, grants-are)
 
   -- a series that is passed over moves nothing
   pub pass-series
-      : (around : Around) → isPlanned (verdictOf around (seriesAt h (rest own m (at + 1)))) ≡ false
+      : (around : Around) → isPlanned (verdictOf around (seriesAt h y (rest own m (at + 1)))) ≡ false
       → planned around (seriesOf (rest own m (at + 1 + r .count))) ≡ planned around (seriesOf (rest own m at))
   pass-series around u = rw (here, behind, u)
 
   pub plan-series
-      : (p q : List ℕ) (w : Walk) (start words x : ℕ) → start ≡ h .start → words ≡ wordsOf h (r .grants)
-      → isPlanned (judged (w .around) start words) ≡ true → planned (w .around) (seriesOf (rest own m at)) ≡ planned (w .around) (seriesOf (rest own m (w .at)))
-      → q ≡ sets p (4 * w .records) (seriesNumbers (seriesAt h (rest own m (at + 1)))) → x ≡ mark (h .ploamu) 1
-      → toCome own m q (record { at = at + 1 + r .count; records = w .records + (r .count + 1); messages = w .messages + x; around = record { end = start + words; bursts = w .around .bursts + 1 } })
+      : (p q : List ℕ) (w : Walk) (s : Open) (x : ℕ) → s .start ≡ h .start → s .words ≡ wordsOf h (r .grants) → s .parity ≡ y
+      → isPlanned (openVerdict (w .around) s) ≡ true → planned (w .around) (seriesOf (rest own m at)) ≡ planned (w .around) (seriesOf (rest own m (w .at)))
+      → q ≡ sets p (4 * w .records) (seriesNumbers h (run 15 (rest own m (at + 1)))) → x ≡ mark (h .ploamu) 1
+      → toCome own m q (record { at = at + 1 + r .count; records = w .records + (r .count + 1); messages = w .messages + x; around = record { end = s .start + openWords s; bursts = w .around .bursts + 1 } })
       ≡ toCome own m p w
-  plan-series p q w start words x hs hw t next hq hx =
-      let u : isPlanned (verdictOf (w .around) (seriesAt h (rest own m (at + 1)))) ≡ true = ap isPlanned (sym (judged-so (w .around) start words hs hw)) ∙ t in
-      let e : start + words ≡ endOf (seriesAt h (rest own m (at + 1))) = cc (hs, hw, grants-are) in
-      let d : _≡_ {A = Around} (record { end = start + words; bursts = w .around .bursts + 1 }) (beyond (w .around) (seriesAt h (rest own m (at + 1)))) = (λ i. record { end = e i; bursts = w .around .bursts + 1 }) in
-      let c : w .records + (r .count + 1) ≡ w .records + entriesIn (seriesAt h (rest own m (at + 1))) = cc count-is in
+  plan-series p q w s x hs hw hy t next hq hx =
+      let u : isPlanned (verdictOf (w .around) (seriesAt h y (rest own m (at + 1)))) ≡ true = ap isPlanned (sym (judged-so (w .around) s hs hw hy)) ∙ t in
+      let e : s .start + openWords s ≡ endOf (seriesAt h y (rest own m (at + 1))) = cc (hs, hw, hy, grants-are) in
+      let d : _≡_ {A = Around} (record { end = s .start + openWords s; bursts = w .around .bursts + 1 }) (beyond (w .around) (seriesAt h y (rest own m (at + 1)))) = (λ i. record { end = e i; bursts = w .around .bursts + 1 }) in
+      let c : w .records + (r .count + 1) ≡ w .records + entriesIn (seriesAt h y (rest own m (at + 1))) = cc count-is in
       let g : w .messages + x ≡ w .messages + mark (h .ploamu) 1 = cc hx in
       rw (← next, here, behind, u)
-      (ap (λ (z : Around). finished q (record { at = 0; records = w .records + (r .count + 1); messages = w .messages + x; around = record { end = start + words; bursts = w .around .bursts + 1 } }) (planned z (seriesOf (rest own m (at + 1))))) d
-      ∙ finished-cons p q w (record { at = 0; records = w .records + (r .count + 1); messages = w .messages + x; around = record { end = start + words; bursts = w .around .bursts + 1 } }) (seriesAt h (rest own m (at + 1))) (planned (beyond (w .around) (seriesAt h (rest own m (at + 1)))) (seriesOf (rest own m (at + 1)))) hq c g d)
+      (ap (λ (z : Around). finished q (record { at = 0; records = w .records + (r .count + 1); messages = w .messages + x; around = record { end = s .start + openWords s; bursts = w .around .bursts + 1 } }) (planned z (seriesOf (rest own m (at + 1))))) d
+      ∙ finished-cons p q w (record { at = 0; records = w .records + (r .count + 1); messages = w .messages + x; around = record { end = s .start + openWords s; bursts = w .around .bursts + 1 } }) (seriesAt h y (rest own m (at + 1))) (planned (beyond (w .around) (seriesAt h y (rest own m (at + 1)))) (seriesOf (rest own m (at + 1)))) hq c g d)
 
 -- ---- the end of the walk
 

@@ -1,4 +1,4 @@
--- The paper's sums 8 to 11: a map that is written is read again, and the rest is computed.
+-- The paper's sums 8 to 11, and those of the room for parity: a map that is written is read again, and the rest is computed.
 -- Assumes nothing.
 use Prim.Native.Nat.{ℕ, suc, _+_, _*_, _≤_}
 use mathlib.Core.Path.{_≡_, _∙_, refl, sym, ap, ap₂}
@@ -18,13 +18,14 @@ use Rattle.xgtc.specs.Reads.{readAllocation}
 use Rattle.xgtc.specs.declared.allocation.Allocation.{Allocation}
 use Rattle.xgem.proofs.Numbers.{octets-length, value-octets}
 use Rattle.xgtc.proofs.Layouts.{allocation-true, allocation-back}
+use Rattle.link.specs.Profiles.{profileAt, parityAt, noProfiles}
 use Rattle.entries.specs.declared.Own.{Own}
 use Rattle.entries.specs.declared.Standing.{Standing}
 use Rattle.entries.specs.Standings.{standing, sorted, startUnfit, noRoom, continues, held}
-use Rattle.series.specs.Series.{Series, entryAt, entryCount, standingsFrom, seriesOf, outset, planned, plannedOf, judged, wordsOf, lastEnd, carriedOver}
+use Rattle.series.specs.Series.{Series, entryAt, entryCount, standingsFrom, seriesOf, outset, planned, plannedOf, judged, wordsOf, parityWords, lastEnd, carriedOver}
 use Rattle.plan.specs.Records.{headFlags, moreFlags, burstFlags}
 use Rattle.plan.specs.Plan.{numbers, seriesNumbers}
-use Rattle.bwmap.specs.Sums.{mapOf, five, grant, plan, carries, eight, Sum8, Sum9, Sum10, Sum11}
+use Rattle.bwmap.specs.Sums.{mapOf, fiveWith, five, grant, planFor, plan, carriesFor, carries, eight, Sum8, Sum9, Sum10, Sum11, parityFive, headIn, pair, SumParity}
 
 module _ (a : Allocation) (fits : allocationFits a ≡ true) where
   written-word : reading 64 (allocationWord a) ≡ word (allocationWord a)
@@ -70,18 +71,21 @@ planned-written own l carried f =
     ∙ ap (λ (s : List Standing). planned (outset carried) (seriesOf s)) (standings-from own (mapOf l) 0 l f refl)
 
 -- the plan and the carried words, computed from the fields
-abbrev planBy : ℕ → List Allocation → List ℕ
-planBy carried l = numbers (planned (outset carried) (seriesOf (standingsOf five l)))
+abbrev planBy : Own → ℕ → List Allocation → List ℕ
+planBy own carried l = numbers (planned (outset carried) (seriesOf (standingsOf own l)))
 
-plan-is : (carried : ℕ) (l : List Allocation) → AllFit l → plan carried l ≡ planBy carried l
-plan-is carried l f = ap numbers (planned-written five l carried f)
+plan-for : (own : Own) (carried : ℕ) (l : List Allocation) → AllFit l → planFor own carried l ≡ planBy own carried l
+plan-for own carried l f = ap numbers (planned-written own l carried f)
+
+plan-is : (carried : ℕ) (l : List Allocation) → AllFit l → plan carried l ≡ planBy five carried l
+plan-is = plan-for five
 
 pub sum-8 : Sum8
-unfolding standing sorted startUnfit noRoom continues held judged wordsOf seriesNumbers headFlags moreFlags burstFlags
+unfolding parityAt profileAt standing sorted startUnfit noRoom continues held judged wordsOf seriesNumbers headFlags moreFlags burstFlags
 sum-8 = plan-is 0 eight (refl, (refl, tt)) ∙ refl
 
 pub sum-9 : Sum9
-unfolding standing sorted startUnfit noRoom continues held judged wordsOf seriesNumbers headFlags moreFlags burstFlags
+unfolding parityAt profileAt standing sorted startUnfit noRoom continues held judged wordsOf seriesNumbers headFlags moreFlags burstFlags
 sum-9 =
     record {
       passed = plan-is 0 (eight ++ (grant 1024 false false 143 20 ∷ [])) (refl, (refl, (refl, tt))) ∙ sym (plan-is 0 eight (refl, (refl, tt)));
@@ -91,11 +95,11 @@ sum-9 =
     }
 
 ten : carries (grant 5 false false 9700 28 ∷ []) ≡ 10
-unfolding standing sorted startUnfit noRoom continues held judged wordsOf
+unfolding parityAt profileAt standing sorted startUnfit noRoom continues held judged wordsOf
 ten = ap (λ (l : List Series). carriedOver (lastEnd 0 l)) (planned-written five (grant 5 false false 9700 28 ∷ []) 0 (refl, tt)) ∙ refl
 
 pub sum-10 : Sum10
-unfolding standing sorted startUnfit noRoom continues held judged wordsOf seriesNumbers headFlags moreFlags burstFlags
+unfolding parityAt profileAt standing sorted startUnfit noRoom continues held judged wordsOf seriesNumbers headFlags moreFlags burstFlags
 sum-10 =
     record {
       passed = ap (λ (c : ℕ). plan c (grant 5 false false 9 1 ∷ [])) ten ∙ plan-is 10 (grant 5 false false 9 1 ∷ []) (refl, tt) ∙ refl;
@@ -103,9 +107,33 @@ sum-10 =
     }
 
 pub sum-11 : Sum11
-unfolding standing sorted startUnfit noRoom continues held judged wordsOf seriesNumbers headFlags moreFlags burstFlags
+unfolding parityAt profileAt standing sorted startUnfit noRoom continues held judged wordsOf seriesNumbers headFlags moreFlags burstFlags
 sum-11 =
     record {
       fits = plan-is 0 (grant 5 false false 0 9718 ∷ []) (refl, tt) ∙ refl;
       exceeds = plan-is 0 (grant 5 false false 0 9719 ∷ []) (refl, tt) ∙ refl;
+    }
+
+-- ---- room for parity
+
+fourteen : carriesFor parityFive (headIn 1 9700 28 ∷ []) ≡ 14
+unfolding parityAt profileAt standing sorted startUnfit noRoom continues held judged wordsOf parityWords
+fourteen = ap (λ (l : List Series). carriedOver (lastEnd 0 l)) (planned-written parityFive (headIn 1 9700 28 ∷ []) 0 (refl, tt)) ∙ refl
+
+pub sum-parity : SumParity
+unfolding parityAt profileAt standing sorted startUnfit noRoom continues held judged wordsOf parityWords seriesNumbers headFlags moreFlags burstFlags
+sum-parity =
+    record {
+      fourteen-passed = plan-for parityFive 0 (pair 12 117) (refl, (refl, tt)) ∙ refl;
+      fourteen-planned = plan-for parityFive 0 (pair 12 118) (refl, (refl, tt)) ∙ refl;
+      fifty-eight-passed = plan-for parityFive 0 (pair 56 161) (refl, (refl, tt)) ∙ refl;
+      fifty-eight-planned = plan-for parityFive 0 (pair 56 162) (refl, (refl, tt)) ∙ refl;
+      fifty-nine-passed = plan-for parityFive 0 (pair 57 166) (refl, (refl, tt)) ∙ refl;
+      fifty-nine-planned = plan-for parityFive 0 (pair 57 167) (refl, (refl, tt)) ∙ refl;
+      without = plan-for five 0 (pair 12 114) (refl, (refl, tt)) ∙ refl;
+      longest = plan-for parityFive 0 (headIn 1 0 9090 ∷ []) (refl, tt) ∙ refl;
+      exceeds = plan-for parityFive 0 (headIn 1 0 9091 ∷ []) (refl, tt) ∙ refl;
+      carried-passed = ap (λ (c : ℕ). planFor parityFive c (headIn 0 13 1 ∷ [])) fourteen ∙ plan-for parityFive 14 (headIn 0 13 1 ∷ []) (refl, tt) ∙ refl;
+      carried-planned = ap (λ (c : ℕ). planFor parityFive c (headIn 0 14 1 ∷ [])) fourteen ∙ plan-for parityFive 14 (headIn 0 14 1 ∷ []) (refl, tt) ∙ refl;
+      not-received = plan-for (fiveWith noProfiles) 0 (headIn 1 100 12 ∷ []) (refl, tt) ∙ refl;
     }

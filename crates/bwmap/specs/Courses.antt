@@ -6,6 +6,7 @@ use mathlib.Core.List.{List, [], _++_}
 use lib.ListN.{replicate}
 use lib.Seq.{sets}
 use Rattle.xgtc.specs.declared.allocation.Allocation.{Allocation}
+use Rattle.link.specs.declared.Parity.{Parity}
 use Rattle.entries.specs.declared.Own.{Own}
 use Rattle.entries.specs.declared.Verdict.{Verdict}
 use Rattle.entries.specs.declared.Verdict.the-variants.{ContinuingNothing, Seventeenth}
@@ -15,8 +16,8 @@ use Rattle.entries.specs.Names.{nameNumber}
 use Rattle.series.specs.Limits.{moreABurst}
 use Rattle.series.specs.declared.Around.{Around}
 use Rattle.series.specs.declared.Open.{Open}
-use Rattle.series.specs.Series.{run, grants, judged}
-use Rattle.series.specs.Opens.{Modest}
+use Rattle.series.specs.Series.{run, grants, sentWords, judged}
+use Rattle.series.specs.Opens.{openWords, openVerdict, Modest}
 use Rattle.bwmap.specs.Turns.{rest}
 use Rattle.bwmap.specs.Verdicts.{roles, verdictsOf}
 use Rattle.bwmap.specs.Names.{nameNumbers}
@@ -42,10 +43,10 @@ excess (suc k) = Seventeenth
 -- ---- a series that ends before the i-th entry
 
 abbrev pub behind : Around → Open → Around
-behind around s = past (s .entries) around (judged around (s .start) (s .words)) (s .start + s .words)
+behind around s = past (s .entries) around (openVerdict around s) (s .start + openWords s)
 
 abbrev pub ended : List ℕ → ℕ → Around → Open → List ℕ
-ended p i around s = sets p (i - s .entries) (replicate (s .entries) (nameNumber (judged around (s .start) (s .words))))
+ended p i around s = sets p (i - s .entries) (replicate (s .entries) (nameNumber (openVerdict around s)))
 
 -- ---- what is still to come
 
@@ -53,13 +54,14 @@ ended p i around s = sets p (i - s .entries) (replicate (s .entries) (nameNumber
 abbrev pub told : Around → ℕ → Verdict → ℕ → List Standing → List Verdict
 told around k v e l = replicate k v ++ verdictsOf (past k around v e) v (roles k l)
 
--- where so many words of it are read: those that go it on count
-abbrev pub toTell : Around → ℕ → ℕ → ℕ → List Standing → List Verdict
-toTell around k start words l = told around k (judged around start (words + grants (left k l))) (start + (words + grants (left k l))) l
+-- where so many words of it are read, before parity: those that go it on count
+abbrev pub toTell : Around → ℕ → Parity → ℕ → ℕ → List Standing → List Verdict
+toTell around k parity start words l =
+    told around k (judged around parity start (sentWords parity (words + grants (left k l)))) (start + sentWords parity (words + grants (left k l))) l
 
 -- the lent list once every entry is named, before the i-th is looked at
 abbrev pub namedFrom : Own → List ℕ → List ℕ → ℕ → Course → List ℕ
-namedFrom own m p i w = sets p (i - w .series .entries) (nameNumbers (toTell (w .around) (w .series .entries) (w .series .start) (w .series .words) (rest own m i)))
+namedFrom own m p i w = sets p (i - w .series .entries) (nameNumbers (toTell (w .around) (w .series .entries) (w .series .parity) (w .series .start) (w .series .words) (rest own m i)))
 
 -- the numbers of a walk stay small, and the series that is open lies before the i-th entry
 pub record Steady (w : Course) (i : ℕ) : Type 0 where

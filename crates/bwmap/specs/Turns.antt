@@ -8,6 +8,7 @@ use lib.ListN.{length}
 use lib.Seq.{sets}
 use Rattle.xgem.specs.Reads.{Found, fields, unreadable, short}
 use Rattle.xgtc.specs.declared.allocation.Allocation.{Allocation}
+use Rattle.link.specs.declared.Parity.{Parity}
 use Rattle.entries.specs.declared.Own.{Own}
 use Rattle.entries.specs.declared.Standing.{Standing}
 use Rattle.entries.specs.declared.Standing.the-variants.{Head}
@@ -15,9 +16,9 @@ use Rattle.entries.specs.Standings.{standing, isPlanned}
 use Rattle.series.specs.Limits.{burstsAFrame, entriesABurst}
 use Rattle.plan.specs.Limits.{numbersARecord}
 use Rattle.series.specs.declared.Around.{Around}
-use Rattle.series.specs.Series.{Series, entryAt, entryCount, standingsFrom, run, seriesOf, grants, wordsOf, outset, judged, planned, lastEnd}
+use Rattle.series.specs.Series.{Series, entryAt, entryCount, standingsFrom, run, seriesOf, grants, wordsOf, outset, planned, lastEnd}
 use Rattle.plan.specs.Plan.{numbers, records, messages}
-use Rattle.series.specs.Opens.{closed}
+use Rattle.series.specs.Opens.{closed, openVerdict}
 use Rattle.series.specs.declared.Open.{Open}
 use Rattle.bwmap.specs.declared.search.Next.{Next}
 use Rattle.bwmap.specs.declared.search.Next.the-variants.{Until, Nowhere}
@@ -41,14 +42,15 @@ tally k g l = record { count = k + length l; grants = g + grants l }
 pub record Running (own : Own) (m : List ℕ) (from i : ℕ) (s : Open) : Type 0 where
   pub at : ℕ
   pub head : Allocation
+  pub parity : Parity
   pub more : ℕ
   pub grants : ℕ
   pub after : from ≤ at
   pub lies : at < entryCount m
-  pub stands : standing own (entryAt m at) ≡ Head head
+  pub stands : standing own (entryAt m at) ≡ Head head parity
   pub here : i ≡ at + 1 + more
   pub few : more ≤ 15
-  pub is : s ≡ record { entries = more + 1; start = head .start; words = wordsOf head grants }
+  pub is : s ≡ record { entries = more + 1; start = head .start; words = wordsOf head grants; parity = parity }
   pub so-far : tally more grants (run (15 - more) (rest own m i)) ≡ tally 0 0 (run 15 (rest own m (at + 1)))
 
 -- between `from` and the i-th entry, or the head of the series that is open, none is planned
@@ -62,7 +64,7 @@ pub record Reached (own : Own) (m : List ℕ) (around : Around) (from i : ℕ) (
   pub ends : i ≤ entryCount m
   pub running : Running own m from i s
   pub stops : run (15 - running .more) (rest own m i) ≡ []
-  pub fit : isPlanned (judged around (s .start) (s .words)) ≡ true
+  pub fit : isPlanned (openVerdict around s) ≡ true
   pub next : planned around (seriesOf (rest own m (running .at))) ≡ planned around (seriesOf (rest own m from))
 
 abbrev pub NextPlanned : Own → List ℕ → Around → ℕ → Next → Type 0

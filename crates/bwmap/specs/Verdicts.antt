@@ -27,7 +27,7 @@ pub data Role : Type 0 where
 abbrev pub roles : ℕ → List Standing → List Role
 roles k [] = []
 roles k (Apart v ∷ l) = alone v ∷ roles 0 l
-roles k (Head a ∷ l) = opens (seriesAt a l) ∷ roles 1 l
+roles k (Head a p ∷ l) = opens (seriesAt a p l) ∷ roles 1 l
 roles zero (More a ∷ l) = alone ContinuingNothing ∷ roles 0 l
 roles (suc k) (More a ∷ l) = cond (ltb (suc k) entriesABurst) (joins ∷ roles (suc (suc k)) l) (alone Seventeenth ∷ roles 0 l)
 

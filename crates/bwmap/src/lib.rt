@@ -71,6 +71,7 @@ fn turn(map: &[u8], own: Own, w: Walk, plan: &mut [u16]) -> Walk
         Next::Until(next, s) => {
             let at = next - s.entries;
             let more = s.entries - 1;
+            let parity = s.parity;
             let h = records::allocation_at(map, at);
             let place = plan::NUMBERS_A_RECORD * w.records;
             records::write_series(map, at + 1, more, h, plan, place);
@@ -79,7 +80,7 @@ fn turn(map: &[u8], own: Own, w: Walk, plan: &mut [u16]) -> Walk
                 records: w.records + (more + 1),
                 messages: w.messages + records::mark(h.ploamu, 1),
                 around: Around {
-                    end: s.start + s.words,
+                    end: s.start + series::sent_words(parity, s.words),
                     bursts: before.bursts + 1,
                 },
             }

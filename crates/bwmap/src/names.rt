@@ -40,11 +40,12 @@ fn name_series(around: Around, s: Open, names: &mut [u8], i: usize) -> Around
     requires { ⌜ Modest s × (0 < s .entries) × (s .entries ≤ i) × (i ≤ length (now names)) ⌝ }
     ensures { λ r. ⌜ (r ≡ behind around s) × (now (names .exit) ≡ ended (now (names .entry)) i around s) ⌝ }
 {
-    let verdict = series::judge(around, s.start, s.words);
+    let parity = s.parity;
+    let verdict = series::judge(around, parity, s.start, s.words);
     fill(names, i - s.entries, s.entries, verdict.number());
     if verdict.is_planned() {
         return Around {
-            end: s.start + s.words,
+            end: s.start + series::sent_words(parity, s.words),
             bursts: around.bursts + 1,
         };
     }
@@ -106,11 +107,11 @@ fn name_entry(map: &[u8], own: Own, i: usize, w: Course, names: &mut [u8]) -> Co
     let around = w.around;
     let s = w.series;
     match read_at(map, own, i) {
-        Standing::Head(h) => {
+        Standing::Head(h, parity) => {
             let next = end_series(around, s, names, i);
             Course {
                 around: next,
-                series: series::opened(h),
+                series: series::opened(h, parity),
             }
         }
         Standing::More(a) => {

@@ -76,7 +76,7 @@ pub(crate) fn write_series(
     at: usize,
 )
     requires { ⌜ (from + count ≤ entryCount (now map)) × (at + numbersARecord + numbersARecord * count ≤ length (now plan)) ⌝ }
-    ensures { λ r. ⌜ now (plan .exit) ≡ sets (now (plan .entry)) at (seriesNumbers (record { head = h; more = allocationsFrom (now (map .entry)) from count })) ⌝ }
+    ensures { λ r. ⌜ now (plan .exit) ≡ sets (now (plan .entry)) at (seriesNumbers h (allocationsFrom (now (map .entry)) from count)) ⌝ }
 {
     let end = at + plan::NUMBERS_A_RECORD;
     plan::write_record(&mut plan[at..end], 0, h, plan::head_flags(h), h.start);

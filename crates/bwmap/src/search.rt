@@ -38,10 +38,12 @@ pub(crate) fn joined(s: Open, a: Allocation) -> Open
     requires { ⌜ Modest s × (goesOn s ≡ true) ⌝ }
     ensures { λ r. ⌜ (r ≡ joined s a) × Modest r ⌝ }
 {
+    let parity = s.parity;
     Open {
         entries: s.entries + 1,
         start: s.start,
         words: s.words + long(a.grant),
+        parity: parity,
     }
 }
 
@@ -56,11 +58,11 @@ pub(crate) fn next_planned(map: &[u8], own: Own, from: usize, around: Around) ->
     let mut i = from;
     while i < n {
         match read_at(map, own, i) {
-            Standing::Head(h) => {
+            Standing::Head(h, parity) => {
                 if series::fits(around, s) {
                     return Next::Until(i, s);
                 }
-                s = series::opened(h);
+                s = series::opened(h, parity);
                 i += 1;
             }
             Standing::More(a) => {

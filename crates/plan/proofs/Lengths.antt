@@ -15,7 +15,7 @@ length-more h (a ∷ l) =
     let ih = length-more h l in
     omega arith
 
-pub length-series : (s : Series) → length (seriesNumbers s) ≡ 4 * entriesIn s
+pub length-series : (s : Series) → length (seriesNumbers (s .head) (s .more)) ≡ 4 * entriesIn s
 unfolding seriesNumbers
 length-series s =
     let n = length-more (s .head) (s .more) in
@@ -26,4 +26,4 @@ pub length-numbers : (l : List Series) → length (numbers l) ≡ 4 * records l
 length-numbers [] = refl
 length-numbers (s ∷ l) =
     let ih = length-numbers l in
-    omega (arith, length-append (seriesNumbers s) (numbers l), length-series s)
+    omega (arith, length-append (seriesNumbers (s .head) (s .more)) (numbers l), length-series s)

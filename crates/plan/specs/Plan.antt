@@ -13,12 +13,13 @@ abbrev pub moreNumbers : Allocation → List Allocation → List ℕ
 moreNumbers h [] = []
 moreNumbers h (a ∷ l) = planRecord a (moreFlags h a) (h .start) ++ moreNumbers h l
 
-unfoldable pub seriesNumbers : Series → List ℕ
-seriesNumbers s = planRecord (s .head) (headFlags (s .head)) (s .head .start) ++ moreNumbers (s .head) (s .more)
+-- those of a head and what continues it: parity takes no part, "the plan's GrantSize is the map's"
+unfoldable pub seriesNumbers : Allocation → List Allocation → List ℕ
+seriesNumbers h more = planRecord h (headFlags h) (h .start) ++ moreNumbers h more
 
 abbrev pub numbers : List Series → List ℕ
 numbers [] = []
-numbers (s ∷ l) = seriesNumbers s ++ numbers l
+numbers (s ∷ l) = seriesNumbers (s .head) (s .more) ++ numbers l
 
 -- ---- what is counted
 

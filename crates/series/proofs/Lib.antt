@@ -1,4 +1,5 @@
 pub mod Runs
+pub mod Parity
 pub mod Judged
 pub mod Opens
 pub mod Once

@@ -8,8 +8,8 @@ use lib.Dec.{ltb, leb}
 use borrow.Author.Tests.{lt-ltb, ltb-true, ltb-false, leb-true, leb-false}
 use Rattle.xgtc.specs.declared.allocation.Allocation.{Allocation}
 use Rattle.entries.specs.Standings.{isPlanned}
-use Rattle.series.specs.Series.{wordsOf, judged}
-use Rattle.series.specs.Opens.{closed, goesOn, fits, Modest}
+use Rattle.series.specs.Series.{wordsOf}
+use Rattle.series.specs.Opens.{closed, goesOn, openVerdict, fits, Modest}
 use Rattle.series.specs.declared.Around.{Around}
 use Rattle.series.specs.declared.Open.{Open}
 
@@ -31,15 +31,15 @@ full-or-none s k h one = go (ltb 0 (s .entries)) (leb (s .entries) 15) refl refl
     go true false p q e = omega (arith, leb-false (s .entries) 15 q)
     go false b p q e = omega (arith, ltb-false 0 (s .entries) p)
 
-pub fits-facts : (around : Around) (s : Open) → fits around s ≡ true → (0 < s .entries) × (isPlanned (judged around (s .start) (s .words)) ≡ true)
+pub fits-facts : (around : Around) (s : Open) → fits around s ≡ true → (0 < s .entries) × (isPlanned (openVerdict around s) ≡ true)
 unfolding fits
 fits-facts around s h = go (ltb 0 (s .entries)) refl h
   where
-    go : (a : Bool) → ltb 0 (s .entries) ≡ a → (a && isPlanned (judged around (s .start) (s .words))) ≡ true → (0 < s .entries) × (isPlanned (judged around (s .start) (s .words)) ≡ true)
+    go : (a : Bool) → ltb 0 (s .entries) ≡ a → (a && isPlanned (openVerdict around s)) ≡ true → (0 < s .entries) × (isPlanned (openVerdict around s) ≡ true)
     go true p q = (ltb-true 0 (s .entries) p, q)
     go false p q = absurd (false≢true q)
 
-pub unfit : (around : Around) (s : Open) → 0 < s .entries → fits around s ≡ false → isPlanned (judged around (s .start) (s .words)) ≡ false
+pub unfit : (around : Around) (s : Open) → 0 < s .entries → fits around s ≡ false → isPlanned (openVerdict around s) ≡ false
 unfolding fits
 unfit around s h f = sym (rw (lt-ltb 0 (s .entries) h)) ∙ f
 

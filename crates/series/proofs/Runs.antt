@@ -6,6 +6,7 @@ use mathlib.Core.List.{List, [], _∷_}
 use native.Mathlib.Omega.{arith}
 use lib.ListN.{length, drop}
 use Rattle.xgtc.specs.declared.allocation.Allocation.{Allocation}
+use Rattle.link.specs.declared.Parity.{Parity}
 use Rattle.entries.specs.declared.Verdict.{Verdict}
 use Rattle.entries.specs.declared.Standing.{Standing}
 use Rattle.entries.specs.declared.Standing.the-variants.{Apart, Head, More}
@@ -15,9 +16,9 @@ pub run-nil : (k : ℕ) → run k [] ≡ []
 run-nil zero = refl
 run-nil (suc k) = refl
 
-pub run-head : (k : ℕ) (a : Allocation) (l : List Standing) → run k (Head a ∷ l) ≡ []
-run-head zero a l = refl
-run-head (suc k) a l = refl
+pub run-head : (k : ℕ) (a : Allocation) (p : Parity) (l : List Standing) → run k (Head a p ∷ l) ≡ []
+run-head zero a p l = refl
+run-head (suc k) a p l = refl
 
 pub run-apart : (k : ℕ) (v : Verdict) (l : List Standing) → run k (Apart v ∷ l) ≡ []
 run-apart zero v l = refl
@@ -27,7 +28,7 @@ pub run-length : (k : ℕ) (l : List Standing) → (length (run k l) ≤ length 
 run-length zero l = (zero-le, zero-le)
 run-length (suc k) [] = (zero-le, zero-le)
 run-length (suc k) (Apart v ∷ l) = (zero-le, zero-le)
-run-length (suc k) (Head a ∷ l) = (zero-le, zero-le)
+run-length (suc k) (Head a p ∷ l) = (zero-le, zero-le)
 run-length (suc k) (More a ∷ l) =
     let ih = run-length k l in
     (omega arith, omega arith)
@@ -37,5 +38,5 @@ pub series-drop : (k : ℕ) (l : List Standing) → seriesOf (drop (length (run 
 series-drop zero l = refl
 series-drop (suc k) [] = refl
 series-drop (suc k) (Apart v ∷ l) = refl
-series-drop (suc k) (Head a ∷ l) = refl
+series-drop (suc k) (Head a p ∷ l) = refl
 series-drop (suc k) (More a ∷ l) = series-drop k l

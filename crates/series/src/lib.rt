@@ -6,8 +6,9 @@ use station::limits::UPSTREAM_WORDS;
 use xgtc::allocation::Allocation;
 ghost use Prim.Native.Nat.{_≤_, _<_};
 ghost use mathlib.Core.Path.{_≡_};
-ghost use Rattle.series.specs.Series.{wordsOf, judged};
-ghost use Rattle.series.specs.Opens.{closed, opened, goesOn, fits, Modest};
+ghost use Rattle.series.specs.Limits.{wordsABurst};
+ghost use Rattle.series.specs.Series.{wordsOf, sentWords, unknown, judged};
+ghost use Rattle.series.specs.Opens.{closed, opened, goesOn, countedWords, fits, Modest};
 
 // Bursts that a frame may have planned.
 pub const BURSTS_A_FRAME: usize = 4;
@@ -21,6 +22,11 @@ const WORDS_A_BURST: usize = UPSTREAM_WORDS;
 
 // Words of a PLOAMu.
 const PLOAMU_WORDS: usize = 12;
+
+// 10.3.2: the words of a block of 232 octets, and those of its parity.
+const WORDS_A_BLOCK: usize = 58;
+
+const PARITY_A_BLOCK: usize = 4;
 
 // What is around a series: the word where the last planned burst ends, and how many the frame has planned before it.
 pub struct Around {
@@ -93,14 +99,40 @@ fn is_unknown(parity: Parity) -> bool
     }
 }
 
-// What becomes of a burst of so many words, after parity, at `start`.
+// What a burst of so many words takes with parity.
+fn with_parity(parity: Parity, words: usize) -> usize
+    requires { ⌜ words ≤ wordsABurst ⌝ }
+    ensures { λ r. ⌜ r ≡ sentWords parity words ⌝ }
+{
+    match parity {
+        Parity::NotReceived => words,
+        Parity::Off => words,
+        Parity::On => {
+            let begun = (words + (WORDS_A_BLOCK - 1)) / WORDS_A_BLOCK;
+            words + PARITY_A_BLOCK * begun
+        }
+    }
+}
+
+// What a burst of so many words takes, parity counted. One that is too long before parity is too long after it, and stays as it is: the
+// sum can't overflow.
+pub fn sent_words(parity: Parity, words: usize) -> usize
+    ensures { λ r. ⌜ r ≡ countedWords parity words ⌝ }
+{
+    if words <= WORDS_A_BURST {
+        return with_parity(parity, words);
+    }
+    words
+}
+
+// What becomes of a burst of so many words, before parity, at `start`.
 pub fn judge(around: Around, parity: Parity, start: usize, words: usize) -> Verdict
-    ensures { λ r. ⌜ r ≡ judged around parity start words ⌝ }
+    ensures { λ r. ⌜ r ≡ judged around parity start (sentWords parity words) ⌝ }
 {
     if is_unknown(parity) {
         return Verdict::ProfileNotReceived;
     }
-    if WORDS_A_BURST < words {
+    if WORDS_A_BURST < sent_words(parity, words) {
         return Verdict::TooLong;
     }
     if start < around.end {
@@ -117,7 +149,8 @@ pub fn fits(around: Around, s: Open) -> bool
     ensures { λ r. ⌜ r ≡ fits around s ⌝ }
 {
     if 0 < s.entries {
-        let verdict = judge(around, s.start, s.words);
+        let parity = s.parity;
+        let verdict = judge(around, parity, s.start, s.words);
         return verdict.is_planned();
     }
     false

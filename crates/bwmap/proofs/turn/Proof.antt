@@ -3,7 +3,7 @@
 use native.Mathlib.Omega.{arith}
 use denote.Ref.{now}
 use Rattle.bwmap.proofs.Steps.{move-past}
-use Rattle.bwmap.proofs.Opens.{sizes, plan-next}
+use Rattle.bwmap.proofs.Opens.{sizes, words-low, plan-next}
 use borrow.Author.Needs.{needs}
 use Rattle.bwmap.proofs.turn.Statement.{statement}
 use Rattle.bwmap.proofs.turn.Tie as tie
@@ -43,31 +43,35 @@ write-series-requires c κs =
     let t = sizes (a .own) (now (a .map)) (now (a .plan)) (a .w) _ _ (rw (c .before .before .before .before .before .before .next .given .1) at (c .before .before .before .before .before .before .before .before .next-planned .ensures)) in
     (omega (arith, t), omega (arith, t, c .before .before .before .before .before .before .before .before .before .before .before .before .pre .1, c .before .before .before .before .before .before .before .before .before .before .before .before .pre .2 .room))
 
-add-t15 : tie.Need-add-t15
-add-t15 c = search needs
+add-t16 : tie.Need-add-t16
+add-t16 c = search needs
 
-add-t18 : tie.Need-add-t18
-add-t18 c =
+add-t19 : tie.Need-add-t19
+add-t19 c =
     let a = c .before .before .before .before .before .before .before .before .before .before .before .before .before .before .before .before .args in
     omega (arith, sizes (a .own) (now (a .map)) (now (a .plan)) (a .w) _ _ (rw (c .before .before .before .before .before .before .before .before .before .before .next .given .1) at (c .before .before .before .before .before .before .before .before .before .before .before .before .next-planned .ensures)), c .before .before .before .before .before .before .before .before .before .before .before .before .before .before .before .before .pre .2 .room)
 
 mark-requires : tie.Need-mark-requires
 mark-requires c κs = search needs
 
-add-t20 : tie.Need-add-t20
-add-t20 c =
+add-t21 : tie.Need-add-t21
+add-t21 c =
     let a = c .before .before .before .before .before .before .before .before .before .before .before .before .before .before .before .before .before .before .args in
     omega (arith, sizes (a .own) (now (a .map)) (now (a .plan)) (a .w) _ _ (rw (c .before .before .before .before .before .before .before .before .before .before .before .before .next .given .1) at (c .before .before .before .before .before .before .before .before .before .before .before .before .before .before .next-planned .ensures)), c .before .before .before .before .before .before .before .before .before .before .before .before .before .before .before .before .before .before .pre .2 .sent, c .before .mark .ensures .1)
 
-add-t21 : tie.Need-add-t21
-add-t21 c =
-    let a = c .before .before .before .before .before .before .before .before .before .before .before .before .before .before .before .before .before .before .before .args in
-    omega (arith, sizes (a .own) (now (a .map)) (now (a .plan)) (a .w) _ _ (rw (c .before .before .before .before .before .before .before .before .before .before .before .before .before .next .given .1) at (c .before .before .before .before .before .before .before .before .before .before .before .before .before .before .before .next-planned .ensures)))
+sent-words-requires : tie.Need-sent-words-requires
+sent-words-requires c κs = search needs
 
-add-t22 : tie.Need-add-t22
-add-t22 c =
+add-t23 : tie.Need-add-t23
+add-t23 c =
     let a = c .before .before .before .before .before .before .before .before .before .before .before .before .before .before .before .before .before .before .before .before .args in
-    omega (arith, sizes (a .own) (now (a .map)) (now (a .plan)) (a .w) _ _ (rw (c .before .before .before .before .before .before .before .before .before .before .before .before .before .before .next .given .1) at (c .before .before .before .before .before .before .before .before .before .before .before .before .before .before .before .before .next-planned .ensures)))
+    let d = rw (c .before .before .before .before .before .before .before .before .before .before .before .before .before .before .next .given .1) at (c .before .before .before .before .before .before .before .before .before .before .before .before .before .before .before .before .next-planned .ensures) in
+    omega (arith, sizes (a .own) (now (a .map)) (now (a .plan)) (a .w) _ _ d, words-low (a .own) (now (a .map)) (now (a .plan)) (a .w) _ _ d _ (c .before .sent-words .ensures))
+
+add-t24 : tie.Need-add-t24
+add-t24 c =
+    let a = c .before .before .before .before .before .before .before .before .before .before .before .before .before .before .before .before .before .before .before .before .before .args in
+    omega (arith, sizes (a .own) (now (a .map)) (now (a .plan)) (a .w) _ _ (rw (c .before .before .before .before .before .before .before .before .before .before .before .before .before .before .before .next .given .1) at (c .before .before .before .before .before .before .before .before .before .before .before .before .before .before .before .before .before .next-planned .ensures)))
 
 enum-told : tie.Need-enum-told
 enum-told c = search needs
@@ -77,11 +81,12 @@ same-length c = search needs
 
 returns : tie.Need-returns
 returns c =
-    let a = c .before .before .before .before .before .before .before .before .before .before .before .before .before .before .before .before .before .before .before .before .args in
-    let s = c .before .before .before .before .before .before .before .before .before .before .before .before .before .before .before .before .before .before .before .before .pre .2 in
-    let d = rw (c .before .before .before .before .before .before .before .before .before .before .before .before .before .before .next .given .1) at (c .before .before .before .before .before .before .before .before .before .before .before .before .before .before .before .before .next-planned .ensures) in
+    let a = c .before .before .before .before .before .before .before .before .before .before .before .before .before .before .before .before .before .before .before .before .before .args in
+    let s = c .before .before .before .before .before .before .before .before .before .before .before .before .before .before .before .before .before .before .before .before .before .pre .2 in
+    let d = rw (c .before .before .before .before .before .before .before .before .before .before .before .before .before .before .before .next .given .1) at (c .before .before .before .before .before .before .before .before .before .before .before .before .before .before .before .before .before .next-planned .ensures) in
     let t = sizes (a .own) (now (a .map)) (now (a .plan)) (a .w) _ _ d in
-    (record { few = omega (arith, t); room = omega (arith, t, s .room); sent = omega (arith, s .sent, c .before .before .before .mark .ensures .1); low = omega (arith, t) }, t .3, t .4, plan-next (a .own) (now (a .map)) (now (a .plan)) (a .w) _ _ d (c .before .before .before .before .before .before .before .before .before .before .allocation-at .result) (c .before .before .before .before .before .before .before .before .before .before .allocation-at .ensures) _ _ (c .before .before .before .before .before .before .before .write-series .ensures) (c .before .before .before .mark .ensures .0))
+    let l = words-low (a .own) (now (a .map)) (now (a .plan)) (a .w) _ _ d _ (c .before .before .sent-words .ensures) in
+    (record { few = omega (arith, t); room = omega (arith, t, s .room); sent = omega (arith, s .sent, c .before .before .before .before .mark .ensures .1); low = omega (arith, t, l) }, t .3, t .4, plan-next (a .own) (now (a .map)) (now (a .plan)) (a .w) _ _ d (c .before .before .before .before .before .before .before .before .before .before .before .allocation-at .result) (c .before .before .before .before .before .before .before .before .before .before .before .allocation-at .ensures) _ _ _ (c .before .before .before .before .before .before .before .before .write-series .ensures) (c .before .before .before .before .mark .ensures .0) (c .before .before .sent-words .ensures))
 
 returns-2 : tie.Need-returns-2
 returns-2 c =
@@ -102,12 +107,13 @@ turn-spec =
     mul-place
     add-write-series
     write-series-requires
-    add-t15
-    add-t18
+    add-t16
+    add-t19
     mark-requires
-    add-t20
     add-t21
-    add-t22
+    sent-words-requires
+    add-t23
+    add-t24
     enum-told
     same-length
     returns

@@ -56,7 +56,7 @@ same-length c = search needs
 returns-2 : tie.Need-returns-2
 returns-2 c =
     let a = c .before .before .before .before .before .before .before .before .before .before .before .before .before .args in
-    head-next (a .own) (now (a .map)) (now (a .names)) (a .i) (a .w) (c .before .before .before .before .before .before .before .before .read-at .result) (c .before .before .before .before .before .before .before .before .before .before .before .before .before .pre .0) (c .before .before .before .before .before .before .before .before .read-at .ensures) (c .before .before .before .before .before .before .before .before .before .before .before .before .before .pre .2) _ _ (c .before .before .before .before .before .before .h .given .0 .0) (c .before .before .before .before .before .before .h .given .1) _ _ (c .before .before .before .end-series .ensures .0) (c .opened .ensures .0) (c .opened .ensures .1) refl (c .before .before .before .end-series .ensures .1)
+    head-next (a .own) (now (a .map)) (now (a .names)) (a .i) (a .w) (c .before .before .before .before .before .before .before .before .read-at .result) (c .before .before .before .before .before .before .before .before .before .before .before .before .before .pre .0) (c .before .before .before .before .before .before .before .before .read-at .ensures) (c .before .before .before .before .before .before .before .before .before .before .before .before .before .pre .2) _ _ (c .before .before .before .before .before .before .h .given .0 .0) (c .before .before .before .before .before .before .h .given .0 .1 .0) (c .before .before .before .before .before .before .h .given .1) _ _ (c .before .before .before .end-series .ensures .0) (c .opened .ensures .0) (c .opened .ensures .1) refl (c .before .before .before .end-series .ensures .1)
 
 same-length-2 : tie.Need-same-length-2
 same-length-2 c = search needs

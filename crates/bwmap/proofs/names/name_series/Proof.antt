@@ -2,7 +2,7 @@
 -- Assumes nothing.
 use mathlib.Core.Path.{_∙_, sym}
 use native.Mathlib.Omega.{arith}
-use Rattle.bwmap.proofs.Courses.{moved, unmoved, few-before, series-named}
+use Rattle.bwmap.proofs.Courses.{words-few, moved, unmoved, few-before, series-named}
 use denote.Ref.{now}
 use borrow.Author.Needs.{needs}
 use Rattle.bwmap.proofs.names.name_series.Statement.{statement}
@@ -23,21 +23,26 @@ fill-requires c κs = search needs
 is-planned-requires : tie.Need-is-planned-requires
 is-planned-requires c κs = search needs
 
-add-t12 : tie.Need-add-t12
-add-t12 c = search needs
+sent-words-requires : tie.Need-sent-words-requires
+sent-words-requires c κs = search needs
 
-add-t13 : tie.Need-add-t13
-add-t13 c =
+add-t14 : tie.Need-add-t14
+add-t14 c =
     let a = c .before .before .before .before .before .before .before .before .before .before .before .before .args in
-    omega (arith, few-before (a .around) (a .s) (c .before .before .before .before .before .before .before .before .before .before .judge .result) (c .before .before .before .before .before .before .before .before .before .before .judge .ensures) (sym (c .before .before .before .is-planned .ensures) ∙ c .before .before .if1 .taken))
+    omega (arith, c .before .before .before .before .before .before .before .before .before .before .before .before .pre .0 .start, words-few (a .around) (a .s) (c .before .before .before .before .before .before .before .before .before .before .judge .result) (c .before .before .before .before .before .before .before .before .before .before .judge .ensures) _ (c .before .sent-words .ensures) (sym (c .before .before .before .is-planned .ensures) ∙ c .before .before .if1 .taken))
+
+add-t15 : tie.Need-add-t15
+add-t15 c =
+    let a = c .before .before .before .before .before .before .before .before .before .before .before .before .before .args in
+    omega (arith, few-before (a .around) (a .s) (c .before .before .before .before .before .before .before .before .before .before .before .judge .result) (c .before .before .before .before .before .before .before .before .before .before .before .judge .ensures) (sym (c .before .before .before .before .is-planned .ensures) ∙ c .before .before .before .if1 .taken))
 
 same-length : tie.Need-same-length
 same-length c = search needs
 
 returns : tie.Need-returns
 returns c =
-    let a = c .before .before .before .before .before .before .before .before .before .before .before .before .args in
-    (moved (a .around) (a .s) (c .before .before .before .before .before .before .before .before .before .before .judge .result) (c .before .before .before .before .before .before .before .before .before .before .judge .ensures) (c .before .before .before .before .before .before .before .before .before .before .before .before .pre .1) (sym (c .before .before .before .is-planned .ensures) ∙ c .before .before .if1 .taken), series-named (a .around) (a .s) (c .before .before .before .before .before .before .before .before .before .before .judge .result) (c .before .before .before .before .before .before .before .before .before .before .judge .ensures) (now (a .names)) _ (a .i) (c .before .before .before .before .before .before .before .number .result) (c .before .before .before .before .before .before .before .number .ensures) (c .before .before .before .before .before .before .fill .ensures))
+    let a = c .before .before .before .before .before .before .before .before .before .before .before .before .before .args in
+    (moved (a .around) (a .s) (c .before .before .before .before .before .before .before .before .before .before .before .judge .result) (c .before .before .before .before .before .before .before .before .before .before .before .judge .ensures) _ (c .before .before .sent-words .ensures) (sym (c .before .before .before .before .is-planned .ensures) ∙ c .before .before .before .if1 .taken) (c .before .before .before .before .before .before .before .before .before .before .before .before .before .pre .1), series-named (a .around) (a .s) (c .before .before .before .before .before .before .before .before .before .before .before .judge .result) (c .before .before .before .before .before .before .before .before .before .before .before .judge .ensures) (now (a .names)) _ (a .i) (c .before .before .before .before .before .before .before .before .number .result) (c .before .before .before .before .before .before .before .before .number .ensures) (c .before .before .before .before .before .before .before .fill .ensures))
 
 same-length-2 : tie.Need-same-length-2
 same-length-2 c = search needs
@@ -56,8 +61,9 @@ name-series-spec =
     number-requires
     fill-requires
     is-planned-requires
-    add-t12
-    add-t13
+    sent-words-requires
+    add-t14
+    add-t15
     same-length
     returns
     same-length-2

@@ -38,7 +38,7 @@ returns : tie.Need-returns Inv-loop μ-loop
 returns c =
     let a = c .before .before .before .before .before .before .before .before .before .before .args in
     let l = c .before .before .before .before .before .before .before .loop in
-    reached (a .own) (now (a .map)) (a .around) (a .from) (l .i) (l .s) (l .inv .3) (head-stops (a .own) (now (a .map)) (a .around) (a .from) (l .i) (l .s) _ (c .before .before .before .before .before .before .loop-test .taken) (c .before .before .before .before .before .read-at .ensures) (c .before .before .before .h .given .0 .0) (c .before .before .before .h .given .1)) (sym (c .before .fits2 .ensures) ∙ c .if1 .taken) (l .inv .2 .start) (l .inv .1)
+    reached (a .own) (now (a .map)) (a .around) (a .from) (l .i) (l .s) (l .inv .3) (head-stops (a .own) (now (a .map)) (a .around) (a .from) (l .i) (l .s) _ (c .before .before .before .before .before .before .loop-test .taken) (c .before .before .before .before .before .read-at .ensures) (c .before .before .before .h .given .0 .0) (c .before .before .before .h .given .0 .1 .0) (c .before .before .before .h .given .1)) (sym (c .before .fits2 .ensures) ∙ c .if1 .taken) (l .inv .2 .start) (l .inv .1)
 
 opened-requires : tie.Need-opened-requires Inv-loop μ-loop
 opened-requires c κs = search needs
@@ -53,7 +53,7 @@ loop-again : tie.Need-loop-again Inv-loop μ-loop
 loop-again c =
     let a = c .before .before .before .before .before .before .before .before .before .before .before .args in
     let l = c .before .before .before .before .before .before .before .before .loop in
-    (omega (arith, l .inv .0), omega (arith, c .before .before .before .before .before .before .before .loop-test .taken), c .opened .ensures .1, open-next (a .own) (now (a .map)) (a .around) (a .from) (l .i) (l .s) _ (c .before .before .before .before .before .before .before .loop-test .taken) (c .before .before .before .before .before .before .read-at .ensures) (c .before .before .before .before .h .given .0 .0) _ (c .before .before .before .before .h .given .1) (c .opened .ensures .0) (l .inv .0) (l .inv .3) (sym (c .before .before .fits2 .ensures) ∙ c .before .if1 .left))
+    (omega (arith, l .inv .0), omega (arith, c .before .before .before .before .before .before .before .loop-test .taken), c .opened .ensures .1, open-next (a .own) (now (a .map)) (a .around) (a .from) (l .i) (l .s) _ (c .before .before .before .before .before .before .before .loop-test .taken) (c .before .before .before .before .before .before .read-at .ensures) (c .before .before .before .before .h .given .0 .0) (c .before .before .before .before .h .given .0 .1 .0) _ (c .before .before .before .before .h .given .1) (c .opened .ensures .0) (l .inv .0) (l .inv .3) (sym (c .before .before .fits2 .ensures) ∙ c .before .if1 .left))
 
 enum-known-a : tie.Need-enum-known-a Inv-loop μ-loop
 enum-known-a c = search needs
