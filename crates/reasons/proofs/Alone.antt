@@ -8,6 +8,7 @@ use mathlib.Core.List.{List}
 use Rattle.xgtc.specs.declared.allocation.Allocation.{Allocation}
 use Rattle.xgem.specs.Reads.{Found, fields, unreadable, short}
 use Rattle.station.specs.States.{silent}
+use Rattle.link.specs.Profiles.{parityAt}
 use Rattle.entries.specs.declared.Own.{Own}
 use Rattle.entries.specs.declared.Verdict.{Verdict}
 use Rattle.entries.specs.declared.Verdict.the-variants.{Planned, Unreadable, StartTimeUnfit, DbruWithoutRoom, Foreign, Silent}
@@ -55,7 +56,7 @@ module _ (own : Own) (m : List ℕ) (carried i : ℕ) where
 
       by-tests
           : (v : Verdict) (s n o k : Bool) → startUnfit a ≡ s → noRoom a ≡ n → ours own a ≡ o
-          → cond s (Apart StartTimeUnfit) (cond n (Apart DbruWithoutRoom) (cond o (cond k (More a) (Head a)) (Apart Foreign))) ≡ Apart v
+          → cond s (Apart StartTimeUnfit) (cond n (Apart DbruWithoutRoom) (cond o (cond k (More a) (Head a (parityAt (own .profiles) (a .profile)))) (Apart Foreign))) ≡ Apart v
           → TrueName own m carried i v
       by-tests v true n o k p q r z =
           let w : StartTimeUnfit ≡ v = cc in

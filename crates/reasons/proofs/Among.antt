@@ -9,11 +9,11 @@ use native.Mathlib.Omega.{arith}
 use Rattle.station.specs.States.{silent}
 use Rattle.entries.specs.declared.Own.{Own}
 use Rattle.entries.specs.declared.Verdict.{Verdict}
-use Rattle.entries.specs.declared.Verdict.the-variants.{Planned, Unreadable, StartTimeUnfit, DbruWithoutRoom, Foreign, ContinuingNothing, Seventeenth, TooLong, Overlapping, AfterTheLast, Silent}
+use Rattle.entries.specs.declared.Verdict.the-variants.{Planned, Unreadable, StartTimeUnfit, DbruWithoutRoom, Foreign, ContinuingNothing, Seventeenth, TooLong, Overlapping, AfterTheLast, Silent, ProfileNotReceived}
 use Rattle.entries.specs.Standings.{startUnfit, noRoom, ours}
 use Rattle.series.specs.Limits.{wordsABurst, entriesABurst}
 use Rattle.series.specs.Series.{Series, entryAt, burstWords, lastEnd}
-use Rattle.bwmap.specs.Promises.{Because}
+use Rattle.bwmap.specs.Promises.{Unreceived, Because}
 use Rattle.reasons.specs.Facts.{OursAt, Belongs, SeriesAt, NothingBefore, Long, Overlaps, plannedBefore, OfSeries, Fact, First}
 use Rattle.reasons.specs.Names.{TrueName}
 use Rattle.reasons.proofs.Belonging.{goes-on, belongs-ours, one-head, continues-on}
@@ -25,7 +25,7 @@ module _ (own : Own) (m : List ℕ) (carried i : ℕ) where
   -- one of ours is named by its series
   among-ours
       : (more : Bool) → OursAt own m i more → (v : Verdict) → (Fact own m carried i Planned → ⊥)
-      → First (Fact own m carried i) (ContinuingNothing ∷ Seventeenth ∷ TooLong ∷ Overlapping ∷ AfterTheLast ∷ []) v → TrueName own m carried i v
+      → First (Fact own m carried i) (ContinuingNothing ∷ Seventeenth ∷ ProfileNotReceived ∷ TooLong ∷ Overlapping ∷ AfterTheLast ∷ []) v → TrueName own m carried i v
   among-ours more x v unplanned f =
       let mine = x .mine in
       inr (
@@ -87,10 +87,13 @@ module _ (own : Own) (m : List ℕ) (carried i : ℕ) where
     this P o = of-one own m carried i h s P at of o
 
     passed
-        : (v : Verdict) → (Fact own m carried i Planned → ⊥) → First (Fact own m carried i) (TooLong ∷ Overlapping ∷ AfterTheLast ∷ []) v → TrueName own m carried i v
+        : (v : Verdict) → (Fact own m carried i Planned → ⊥) → First (Fact own m carried i) (ProfileNotReceived ∷ TooLong ∷ Overlapping ∷ AfterTheLast ∷ []) v → TrueName own m carried i v
     passed v unplanned f =
         let o = belongs-ours own m h i of in
         among-ours (o .0) (o .1) v unplanned (inr (something, inr (within, f)))
+
+    known : (Unreceived s → ⊥) → Fact own m carried i ProfileNotReceived → ⊥
+    known k o = k (this (λ before t. Unreceived t) o)
 
     short-enough : burstWords s ≤ wordsABurst → Fact own m carried i TooLong → ⊥
     short-enough le o = omega (arith, this (λ before t. Long t) o)
@@ -100,10 +103,11 @@ module _ (own : Own) (m : List ℕ) (carried i : ℕ) where
 
     pub named-series : (v : Verdict) → Because (aroundAt own m carried h) s v → TrueName own m carried i v
     named-series Planned b =
-        inr (not-both (silent (own .activation)) (of .head .mine .sends), inl (refl, of-this _ ((λ x. omega (arith, b .0)), (λ x. omega (arith, b .1)), (λ x. omega (arith, b .2)))))
-    named-series TooLong b = passed TooLong (λ p. this _ p .0 b) (inl (refl, of-this _ b))
-    named-series Overlapping b = passed Overlapping (λ p. this _ p .1 (b .1)) (inr (short-enough (b .0), inl (refl, of-this _ (b .1))))
-    named-series AfterTheLast b = passed AfterTheLast (λ p. this _ p .2 (b .2)) (inr (short-enough (b .0), inr (late-enough (b .1), inl (refl, of-this _ (b .2)))))
+        inr (not-both (silent (own .activation)) (of .head .mine .sends), inl (refl, of-this _ (b .0, (λ x. omega (arith, b .1)), (λ x. omega (arith, b .2)), (λ x. omega (arith, b .3)))))
+    named-series ProfileNotReceived b = passed ProfileNotReceived (λ p. this _ p .0 b) (inl (refl, of-this _ b))
+    named-series TooLong b = passed TooLong (λ p. this _ p .1 (b .1)) (inr (known (b .0), inl (refl, of-this _ (b .1))))
+    named-series Overlapping b = passed Overlapping (λ p. this _ p .2 (b .2)) (inr (known (b .0), inr (short-enough (b .1), inl (refl, of-this _ (b .2)))))
+    named-series AfterTheLast b = passed AfterTheLast (λ p. this _ p .3 (b .3)) (inr (known (b .0), inr (short-enough (b .1), inr (late-enough (b .2), inl (refl, of-this _ (b .3))))))
     named-series Unreadable b = absurd b
     named-series StartTimeUnfit b = absurd b
     named-series DbruWithoutRoom b = absurd b

@@ -9,7 +9,7 @@ use Rattle.xgtc.specs.declared.allocation.Allocation.{Allocation}
 use Rattle.xgem.specs.Reads.{Found, fields, unreadable, short}
 use Rattle.entries.specs.declared.Own.{Own}
 use Rattle.entries.specs.declared.Verdict.{Verdict}
-use Rattle.entries.specs.declared.Verdict.the-variants.{Planned, Unreadable, StartTimeUnfit, DbruWithoutRoom, Foreign, ContinuingNothing, Seventeenth, TooLong, Overlapping, AfterTheLast, Silent}
+use Rattle.entries.specs.declared.Verdict.the-variants.{Planned, Unreadable, StartTimeUnfit, DbruWithoutRoom, Foreign, ContinuingNothing, Seventeenth, TooLong, Overlapping, AfterTheLast, Silent, ProfileNotReceived}
 use Rattle.entries.specs.Names.{nameNumber}
 use Rattle.entries.specs.Standings.{isPlanned}
 use Rattle.series.specs.Series.{Series, plannedOf}
@@ -38,6 +38,7 @@ planned-number TooLong = refl
 planned-number Overlapping = refl
 planned-number AfterTheLast = refl
 planned-number Silent = refl
+planned-number ProfileNotReceived = refl
 
 none-called : (l : List Allocation) → _≡_ {A = List (Found Allocation)} [] (readable l) → [] ≡ l
 none-called [] e = refl

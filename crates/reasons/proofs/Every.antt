@@ -34,7 +34,7 @@ one-each around v (opens s ∷ l) = ap suc (go (isPlanned (verdictOf around s)) 
 one-role : (k : ℕ) (l : List Standing) → length (roles k l) ≡ length l
 one-role k [] = refl
 one-role k (Apart v ∷ l) = ap suc (one-role 0 l)
-one-role k (Head a ∷ l) = ap suc (one-role 1 l)
+one-role k (Head a y ∷ l) = ap suc (one-role 1 l)
 one-role zero (More a ∷ l) = ap suc (one-role 0 l)
 one-role (suc k) (More a ∷ l) = go (ltb (suc k) entriesABurst) (one-role (suc (suc k)) l) (one-role 0 l)
   where

@@ -8,7 +8,7 @@ use lib.Dec.{eqb}
 use lib.ListN.{length, getD}
 use Rattle.entries.specs.declared.Own.{Own}
 use Rattle.entries.specs.declared.Verdict.{Verdict}
-use Rattle.entries.specs.declared.Verdict.the-variants.{Planned, Unreadable, StartTimeUnfit, DbruWithoutRoom, Foreign, ContinuingNothing, Seventeenth, TooLong, Overlapping, AfterTheLast, Silent}
+use Rattle.entries.specs.declared.Verdict.the-variants.{Planned, Unreadable, StartTimeUnfit, DbruWithoutRoom, Foreign, ContinuingNothing, Seventeenth, TooLong, Overlapping, AfterTheLast, Silent, ProfileNotReceived}
 use Rattle.entries.specs.Names.{nameNumber}
 use Rattle.series.specs.Series.{entryCount}
 use Rattle.bwmap.specs.Verdicts.{verdicts}
@@ -20,7 +20,7 @@ use Rattle.reasons.proofs.TrueNames.{true-names}
 -- the name of a number
 abbrev nameBy : ℕ → Verdict
 nameBy n =
-    cond (eqb n 0) Planned (cond (eqb n 1) Unreadable (cond (eqb n 2) StartTimeUnfit (cond (eqb n 3) DbruWithoutRoom (cond (eqb n 4) Foreign (cond (eqb n 5) ContinuingNothing (cond (eqb n 6) Seventeenth (cond (eqb n 7) TooLong (cond (eqb n 8) Overlapping (cond (eqb n 9) AfterTheLast Silent)))))))))
+    cond (eqb n 0) Planned (cond (eqb n 1) Unreadable (cond (eqb n 2) StartTimeUnfit (cond (eqb n 3) DbruWithoutRoom (cond (eqb n 4) Foreign (cond (eqb n 5) ContinuingNothing (cond (eqb n 6) Seventeenth (cond (eqb n 7) TooLong (cond (eqb n 8) Overlapping (cond (eqb n 9) AfterTheLast (cond (eqb n 10) Silent ProfileNotReceived))))))))))
 
 by-number : (v : Verdict) → nameBy (nameNumber v) ≡ v
 by-number Planned = refl
@@ -34,6 +34,7 @@ by-number TooLong = refl
 by-number Overlapping = refl
 by-number AfterTheLast = refl
 by-number Silent = refl
+by-number ProfileNotReceived = refl
 
 pub name-number-once : (v w : Verdict) → nameNumber v ≡ nameNumber w → v ≡ w
 name-number-once v w e = sym (by-number v) ∙ ap nameBy e ∙ by-number w

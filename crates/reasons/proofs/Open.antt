@@ -6,6 +6,7 @@ use mathlib.Core.Bool.{false, cond}
 use mathlib.Core.List.{List, _∷_}
 use native.Mathlib.Omega.{arith}
 use Rattle.xgtc.specs.declared.allocation.Allocation.{Allocation}
+use Rattle.link.specs.declared.Parity.{Parity}
 use Rattle.entries.specs.declared.Own.{Own}
 use Rattle.entries.specs.declared.Verdict.{Verdict}
 use Rattle.entries.specs.declared.Standing.{Standing}
@@ -51,16 +52,16 @@ module _ (own : Own) (m : List ℕ) (carried : ℕ) where
       let e : suc i + d ≡ i + suc d = omega arith in
       rw e (ap (after around) (sym (same d)) ∙ a (suc d) (rw e at x))
 
-  pub ahead-head : (i n : ℕ) (around : Around) (a : Allocation) → suc i + n ≡ entryCount m → Ahead i around → standing own (entryAt m i) ≡ Head a
-      → let s = seriesAt a (standingsFrom own m (suc i) n) in Ahead (suc i) (cond (isPlanned (verdictOf around s)) (beyond around s) around)
-  ahead-head i n around a lies ahead p d x =
+  pub ahead-head : (i n : ℕ) (around : Around) (a : Allocation) (y : Parity) → suc i + n ≡ entryCount m → Ahead i around → standing own (entryAt m i) ≡ Head a y
+      → let s = seriesAt a y (standingsFrom own m (suc i) n) in Ahead (suc i) (cond (isPlanned (verdictOf around s)) (beyond around s) around)
+  ahead-head i n around a y lies ahead p d x =
       let e : suc i + d ≡ i + suc d = omega arith in
-      let y : OursAt own m (i + suc d) false = rw e at x in
-      let old = ahead (suc d) y in
+      let z : OursAt own m (i + suc d) false = rw e at x in
+      let old = ahead (suc d) z in
       let stops = run-stops own m d n (suc i) moreABurst (omega (arith, ours-lies own m (suc i + d) false x)) x in
-      let first : standingsFrom own m i (suc d) ≡ Head a ∷ standingsFrom own m (suc i) d = ap (λ (z : Standing). z ∷ standingsFrom own m (suc i) d) p in
-      let t : Series = seriesAt a (standingsFrom own m (suc i) n) in
-      let same : seriesOf (standingsFrom own m i (suc d)) ≡ t ∷ seriesOf (standingsFrom own m (suc i) d) = ap seriesOf first ∙ ap (λ (l : List Allocation). record { head = a; more = l } ∷ seriesOf (standingsFrom own m (suc i) d)) stops in
+      let first : standingsFrom own m i (suc d) ≡ Head a y ∷ standingsFrom own m (suc i) d = ap (λ (z : Standing). z ∷ standingsFrom own m (suc i) d) p in
+      let t : Series = seriesAt a y (standingsFrom own m (suc i) n) in
+      let same : seriesOf (standingsFrom own m i (suc d)) ≡ t ∷ seriesOf (standingsFrom own m (suc i) d) = ap seriesOf first ∙ ap (λ (l : List Allocation). record { head = a; parity = y; more = l } ∷ seriesOf (standingsFrom own m (suc i) d)) stops in
       rw e (sym (after-one around t (seriesOf (standingsFrom own m (suc i) d))) ∙ ap (after around) (sym same) ∙ old)
 
   -- where the i-th entry is of no series, there is nothing to continue
@@ -74,19 +75,19 @@ module _ (own : Own) (m : List ℕ) (carried : ℕ) where
       let e : i + 0 ≡ i = omega arith in
       sym (after-none around) ∙ ahead 0 (rw e x) ∙ ap (aroundAt own m carried) e
 
-  pub begun : (i n : ℕ) (around : Around) (a : Allocation) → suc i + n ≡ entryCount m → Ahead i around → standing own (entryAt m i) ≡ Head a
-      → Within (suc i) 1 (verdictOf around (seriesAt a (standingsFrom own m (suc i) n)))
-  begun i n around a lies ahead p =
+  pub begun : (i n : ℕ) (around : Around) (a : Allocation) (y : Parity) → suc i + n ≡ entryCount m → Ahead i around → standing own (entryAt m i) ≡ Head a y
+      → Within (suc i) 1 (verdictOf around (seriesAt a y (standingsFrom own m (suc i) n)))
+  begun i n around a y lies ahead p =
       let e : suc i - 1 ≡ i = omega arith in
-      let x = stands-head own m i a p in
+      let x = stands-head own m i a y p in
       record {
         head = i;
         place = omega arith;
         few = omega arith;
         last = rw e (head-belongs own m i x);
-        series = seriesAt a (standingsFrom own m (suc i) n);
-        at = series-whole own m i n a lies p;
-        verdict = ap (λ (z : Around). verdictOf z (seriesAt a (standingsFrom own m (suc i) n))) (around-head i around ahead x);
+        series = seriesAt a y (standingsFrom own m (suc i) n);
+        at = series-whole own m i n a y lies p;
+        verdict = ap (λ (z : Around). verdictOf z (seriesAt a y (standingsFrom own m (suc i) n))) (around-head i around ahead x);
       }
 
   pub gone-on : (i k : ℕ) (v : Verdict) → suc k < entriesABurst → (w : Within i (suc k) v) → Belongs own m (w .head) i → Within (suc i) (suc (suc k)) v

@@ -14,12 +14,13 @@ use Rattle.xgtc.specs.Layouts.{allocationOf}
 use Rattle.xgtc.specs.Reads.{readAllocation}
 use Rattle.xgtc.specs.declared.allocation.Allocation.{Allocation}
 use Rattle.xgem.specs.Reads.{Found, fields, short, taken}
+use Rattle.link.specs.Profiles.{parityAt}
 use Rattle.entries.specs.Limits.{structureOctets}
 use Rattle.entries.specs.declared.Own.{Own}
 use Rattle.entries.specs.declared.Verdict.{Verdict}
-use Rattle.entries.specs.declared.Standing.the-variants.{Apart}
+use Rattle.entries.specs.declared.Standing.{Standing}
+use Rattle.entries.specs.declared.Standing.the-variants.{Apart, Head, More}
 use Rattle.entries.specs.Standings.{sorted, standing, Mine}
-use Rattle.entries.proofs.Facts.{standsAs}
 use Rattle.series.specs.Series.{entryAt, entryCount}
 use Rattle.reasons.specs.Facts.{OursAt, Belongs}
 use Rattle.reasons.proofs.Belonging.{belongs-ours}
@@ -52,12 +53,17 @@ entry-long m i h e = taken-not-short (reading 64 (value (take 8 (drop (structure
 
 -- ---- whose it is
 
-stands-sorted : (own : Own) (a : Allocation) (more : Bool) → Mine own (fields a) a more → sorted own a ≡ standsAs more a
+-- the standing of an entry of ours, as a head or as one that continues
+abbrev pub standsAs : Own → Bool → Allocation → Standing
+standsAs own true a = More a
+standsAs own false a = Head a (parityAt (own .profiles) (a .profile))
+
+stands-sorted : (own : Own) (a : Allocation) (more : Bool) → Mine own (fields a) a more → sorted own a ≡ standsAs own more a
 unfolding sorted
 stands-sorted own a true h = rw (h .fit, h .room, h .owned, h .kind)
 stands-sorted own a false h = rw (h .fit, h .room, h .owned, h .kind)
 
-pub mine-stands : (own : Own) (e : Found Allocation) (a : Allocation) (more : Bool) → Mine own e a more → standing own e ≡ standsAs more a
+pub mine-stands : (own : Own) (e : Found Allocation) (a : Allocation) (more : Bool) → Mine own e a more → standing own e ≡ standsAs own more a
 unfolding standing
 mine-stands own e a more h =
     rw (h .sends, h .read) (stands-sorted own a more (record { read = refl; sends = h .sends; fit = h .fit; room = h .room; owned = h .owned; kind = h .kind }))
@@ -70,7 +76,7 @@ module _ (own : Own) (m : List ℕ) where
   pub apart-not-ours : (i : ℕ) (v : Verdict) (more : Bool) → standing own (entryAt m i) ≡ Apart v → OursAt own m i more → ⊥
   apart-not-ours i v more e x = go more (sym e ∙ mine-stands own (entryAt m i) (x .is) more (x .mine))
     where
-      go : (more : Bool) → Apart v ≡ standsAs more (x .is) → ⊥
+      go : (more : Bool) → Apart v ≡ standsAs own more (x .is) → ⊥
       go true q = clash (cc)
       go false q = clash (cc)
 

@@ -9,6 +9,7 @@ use lib.Dec.{ltb}
 use lib.ListN.{length, getD}
 use borrow.Author.Tests.{ltb-true, ltb-false}
 use Rattle.xgtc.specs.declared.allocation.Allocation.{Allocation}
+use Rattle.link.specs.declared.Parity.{Parity}
 use Rattle.entries.specs.declared.Own.{Own}
 use Rattle.entries.specs.declared.Verdict.{Verdict}
 use Rattle.entries.specs.declared.Verdict.the-variants.{ContinuingNothing, Seventeenth, Silent}
@@ -46,13 +47,13 @@ module _ (own : Own) (m : List ℕ) (carried : ℕ) where
     turn-apart ih around v z ahead p =
         (apart-named own m carried i (omega arith) z p, ih around 0 v (ahead-past own m carried i around ahead (λ d. rw p)) (shut own m carried i (apart-alone own m i z p)))
 
-    turn-head : Rest → (around : Around) (a : Allocation) → Ahead own m carried i around → standing own (entryAt m i) ≡ Head a
-        → let s = seriesAt a (standingsFrom own m (suc i) n) in
+    turn-head : Rest → (around : Around) (a : Allocation) (y : Parity) → Ahead own m carried i around → standing own (entryAt m i) ≡ Head a y
+        → let s = seriesAt a y (standingsFrom own m (suc i) n) in
         TrueFrom i (verdictOf around s ∷ cond (isPlanned (verdictOf around s)) (verdictsOf (beyond around s) (verdictOf around s) (roles 1 (standingsFrom own m (suc i) n))) (verdictsOf around (verdictOf around s) (roles 1 (standingsFrom own m (suc i) n))))
-    turn-head ih around a ahead p =
-        let s : Series = seriesAt a (standingsFrom own m (suc i) n) in
-        let b = begun own m carried i n around a lies ahead p in
-        (named-last own m carried i 1 (verdictOf around s) b, go s (isPlanned (verdictOf around s)) (ih (cond (isPlanned (verdictOf around s)) (beyond around s) around) 1 (verdictOf around s) (ahead-head own m carried i n around a lies ahead p) b))
+    turn-head ih around a y ahead p =
+        let s : Series = seriesAt a y (standingsFrom own m (suc i) n) in
+        let b = begun own m carried i n around a y lies ahead p in
+        (named-last own m carried i 1 (verdictOf around s) b, go s (isPlanned (verdictOf around s)) (ih (cond (isPlanned (verdictOf around s)) (beyond around s) around) 1 (verdictOf around s) (ahead-head own m carried i n around a y lies ahead p) b))
       where
         go
             : (s : Series) (c : Bool) → TrueFrom (suc i) (verdictsOf (cond c (beyond around s) around) (verdictOf around s) (roles 1 (standingsFrom own m (suc i) n)))
@@ -99,7 +100,7 @@ module _ (own : Own) (m : List ℕ) (carried : ℕ) where
     turn : Rest → (around : Around) (k : ℕ) (v : Verdict) → Ahead own m carried i around → Open own m carried i k v → (x : Standing) → standing own (entryAt m i) ≡ x
         → TrueFrom i (verdictsOf around v (roles k (x ∷ standingsFrom own m (suc i) n)))
     turn ih around k v ahead w (Apart z) p = turn-apart ih around v z ahead p
-    turn ih around k v ahead w (Head a) p = turn-head ih around a ahead p
+    turn ih around k v ahead w (Head a y) p = turn-head ih around a y ahead p
     turn ih around zero v ahead w (More a) p = turn-nothing ih around v a ahead w p
     turn ih around (suc k) v ahead w (More a) p = turn-more ih around k v a ahead w p (ltb (suc k) entriesABurst) refl
 

@@ -1,7 +1,7 @@
 -- The series of a head is one.
 -- Assumes nothing.
 use Prim.Native.Nat.{ℕ, _+_, _≤_, _<_}
-use mathlib.Core.Path.{_≡_, refl, ap₂}
+use mathlib.Core.Path.{_≡_, _∙_, refl, sym, ap, ap₂}
 use mathlib.Core.Bool.{Bool, true, false}
 use mathlib.Core.List.{List, [], _∷_}
 use native.Mathlib.Omega.{arith}
@@ -9,6 +9,7 @@ use lib.Dec.{ltb, eqb}
 use lib.ListN.{length}
 use borrow.Author.Tests.{ltb-true, ltb-false, eqb-true, eqb-false}
 use Rattle.xgtc.specs.declared.allocation.Allocation.{Allocation}
+use Rattle.link.specs.Profiles.{parityAt}
 use Rattle.entries.specs.declared.Own.{Own}
 use Rattle.series.specs.Series.{Series, entryAt}
 use Rattle.bwmap.specs.Promises.{Follow}
@@ -61,10 +62,11 @@ module _ (own : Own) (m : List ℕ) where
       let heads : s .head ≡ t .head = one-reading (entryAt m h) (s .head) (t .head) (x .head .read) (y .head .read) in
       let long : length (s .more) ≡ length (t .more) = omega (arith, no-longer h s t x y, no-longer h t s y x) in
       let mores : s .more ≡ t .more = one-follow (h + 1) (s .more) (t .more) (x .more) (y .more) long in
-      both s t heads mores
+      let known : s .parity ≡ t .parity = x .parity ∙ ap (λ (a : Allocation). parityAt (own .profiles) (a .profile)) heads ∙ sym (y .parity) in
+      both s t heads known mores
     where
-      both : (s t : Series) → s .head ≡ t .head → s .more ≡ t .more → s ≡ t
-      both s t p q = ap₂ (λ (a : Allocation) (l : List Allocation). record { head = a; more = l }) p q
+      both : (s t : Series) → s .head ≡ t .head → s .parity ≡ t .parity → s .more ≡ t .more → s ≡ t
+      both s t p r q = λ j. record { head = p j; parity = r j; more = q j }
 
   -- so what holds of a series that has the i-th entry holds of this one
   pub of-one

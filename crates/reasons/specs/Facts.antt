@@ -10,15 +10,16 @@ use mathlib.Core.List.{List, [], _∷_}
 use lib.ListN.{length, take}
 use Rattle.xgtc.specs.declared.allocation.Allocation.{Allocation}
 use Rattle.xgem.specs.Reads.{fields, unreadable}
+use Rattle.link.specs.Profiles.{parityAt}
 use Rattle.entries.specs.Limits.{structureOctets}
 use Rattle.entries.specs.declared.Own.{Own}
 use Rattle.entries.specs.declared.Verdict.{Verdict}
-use Rattle.entries.specs.declared.Verdict.the-variants.{Planned, Unreadable, StartTimeUnfit, DbruWithoutRoom, Foreign, ContinuingNothing, Seventeenth, TooLong, Overlapping, AfterTheLast, Silent}
+use Rattle.entries.specs.declared.Verdict.the-variants.{Planned, Unreadable, StartTimeUnfit, DbruWithoutRoom, Foreign, ContinuingNothing, Seventeenth, TooLong, Overlapping, AfterTheLast, Silent, ProfileNotReceived}
 use Rattle.entries.specs.Standings.{startUnfit, noRoom, continues, ours, Mine}
 use Rattle.station.specs.States.{silent}
 use Rattle.series.specs.Limits.{wordsABurst, burstsAFrame, entriesABurst}
 use Rattle.series.specs.Series.{Series, entryAt, burstWords, plannedOf, lastEnd}
-use Rattle.bwmap.specs.Promises.{Follow}
+use Rattle.bwmap.specs.Promises.{Follow, Unreceived}
 
 -- ---- "A series is a head of ours and the entries straight after it that continue and are ours", sixteen at most
 
@@ -39,6 +40,8 @@ pub record SeriesAt (own : Own) (m : List ℕ) (h : ℕ) (s : Series) : Type 0 w
   pub head : Mine own (entryAt m h) (s .head) false
   pub more : Follow own m (h + 1) (s .more)
   pub few : length (s .more) + 1 ≤ entriesABurst
+  -- "count parity where the head's profile switches it on"
+  pub parity : s .parity ≡ parityAt (own .profiles) (s .head .profile)
   pub whole : Belongs own m h (h + length (s .more) + 1) → ⊥
 
 -- ---- what a structure is by itself
@@ -65,7 +68,9 @@ pub record AfterSixteen (own : Own) (m : List ℕ) (i : ℕ) : Type 0 where
 abbrev pub plannedBefore : Own → List ℕ → ℕ → ℕ → List Series
 plannedBefore own m carried h = plannedOf own (take (structureOctets * h) m) carried
 
--- "over 9,720 words"
+-- "a series whose profile hasn't been received" is Unreceived, as the plan's promises have it
+
+-- "over 9,720 words", parity counted
 abbrev pub Long : Series → Type 0
 Long s = wordsABurst < burstWords s
 
@@ -89,22 +94,23 @@ pub record OfSeries (own : Own) (m : List ℕ) (carried i : ℕ) (P : List Serie
 
 abbrev pub Fact : Own → List ℕ → ℕ → ℕ → Verdict → Type 0
 Fact own m carried i Silent = silent (own .activation) ≡ true
-Fact own m carried i Planned = OfSeries own m carried i (λ before s. (Long s → ⊥) × (Overlaps carried before s → ⊥) × (Late before → ⊥))
+Fact own m carried i Planned = OfSeries own m carried i (λ before s. (Unreceived s → ⊥) × (Long s → ⊥) × (Overlaps carried before s → ⊥) × (Late before → ⊥))
 Fact own m carried i Unreadable = entryAt m i ≡ unreadable
 Fact own m carried i StartTimeUnfit = Reads m i (λ a. startUnfit a ≡ true)
 Fact own m carried i DbruWithoutRoom = Reads m i (λ a. noRoom a ≡ true)
 Fact own m carried i Foreign = Reads m i (λ a. ours own a ≡ false)
 Fact own m carried i ContinuingNothing = Reads m i (λ a. continues a ≡ true) × NothingBefore own m i
 Fact own m carried i Seventeenth = Reads m i (λ a. continues a ≡ true) × AfterSixteen own m i
+Fact own m carried i ProfileNotReceived = OfSeries own m carried i (λ before s. Unreceived s)
 Fact own m carried i TooLong = OfSeries own m carried i (λ before s. Long s)
 Fact own m carried i Overlapping = OfSeries own m carried i (λ before s. Overlaps carried before s)
 Fact own m carried i AfterTheLast = OfSeries own m carried i (λ before s. Late before)
 
--- the names in the order of the request
+-- the names in the order of the request, with "that exception" of 2/12 before too long
 abbrev pub inOrder : List Verdict
 inOrder =
-    Silent ∷ Planned ∷ Unreadable ∷ StartTimeUnfit ∷ DbruWithoutRoom ∷ Foreign ∷ ContinuingNothing ∷ Seventeenth ∷ TooLong ∷ Overlapping
-    ∷ AfterTheLast ∷ []
+    Silent ∷ Planned ∷ Unreadable ∷ StartTimeUnfit ∷ DbruWithoutRoom ∷ Foreign ∷ ContinuingNothing ∷ Seventeenth ∷ ProfileNotReceived ∷ TooLong
+    ∷ Overlapping ∷ AfterTheLast ∷ []
 
 -- v is the first of the list whose fact holds
 abbrev pub First : (Verdict → Type 0) → List Verdict → Verdict → Type 0
