@@ -16,7 +16,7 @@ use Rattle.station.specs.declared.Station.{Station}
 use Rattle.station.specs.Station.{enter, withActivation}
 use Rattle.timing.specs.Timing.{countTo1, endFrom, frameEnd}
 use Rattle.effects.specs.declared.Change.{Change}
-use Rattle.effects.specs.declared.Change.the-variants.{Keep, Identify, Range, Delay, AddAlloc, RemoveAlloc, Enter}
+use Rattle.effects.specs.declared.Change.the-variants.{Keep, Identify, Range, Delay, AddAlloc, RemoveAlloc, SetProfile, Enter}
 use Rattle.effects.specs.declared.Debt.{Debt}
 use Rattle.effects.specs.declared.Debt.the-variants.{Free, Owes}
 use Rattle.effects.specs.declared.Effect.{Effect}
@@ -34,6 +34,7 @@ changed s (Range delay) = refl
 changed s (Delay delay) = refl
 changed s (AddAlloc id) = refl
 changed s (RemoveAlloc id) = refl
+changed s (SetProfile index parity) = refl
 changed s (Enter a) = refl
 
 indebted : (s : Station) (d : Debt) → applyDebt s d .carried ≡ s .carried
