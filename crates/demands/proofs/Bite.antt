@@ -171,9 +171,9 @@ unfolding buffers opens granted sending seriesFrom grantAt
 writes-nothing d =
     let e = sends-both (λ s a l. record { outcome = frameLeft s a l .outcome; counts = frameLeft s a l .counts; lent = l }) d
     (record {
-      bare = record { answer = bare-leads .answer; station = bare-leads .station; memory = refl };
+      starts = record { answer = bare-leads .answer; station = bare-leads .station; memory = refl };
       dark = ap (λ (c : Counts). laser (c .records) (lent .plan)) counts-bare;
-      told = record { answer = told-leads false .answer; station = told-leads false .station; memory = refl };
+      hears = record { answer = told-leads false .answer; station = told-leads false .station; memory = refl };
       unlit = ap (λ (c : Counts). laser (c .records) (lent .plan)) (counts-told false);
     }) this-done in
     let n : _≡_ {A = ℕ} 0 2 = ap (λ (k : ℕ). length (laser k (buffers .plan))) (sym records-two) ∙ ap length e in
@@ -199,9 +199,9 @@ first-structure d =
     = ap (λ (r : Found Hlend). readBy r (λ h. firstStructureIn h ready (arrives two) lent) (frameLeft ready (arrives two) lent)) reads-two in
     let e = sends-both (λ s a l. readBy (readHlend (a .octets)) (λ h. firstStructureIn h s a l) (frameLeft s a l)) d
     (record {
-      bare = subst (λ (x : FrameLeft). Leads x searching) (sym first-bare) bare-leads;
+      starts = subst (λ (x : FrameLeft). Leads x searching) (sym first-bare) bare-leads;
       dark = ap sendings first-bare ∙ dark-bare;
-      told = subst (λ (x : FrameLeft). Leads x ready) (sym first-told) (told-leads false);
+      hears = subst (λ (x : FrameLeft). Leads x ready) (sym first-told) (told-leads false);
       unlit = ap sendings first-told ∙ dark-told false;
     }) (ap (λ (x : FrameLeft). answerNumber (x .outcome .answer)) goes ∙ answer-two) in
     let n : _≡_ {A = ℕ} 1 2

@@ -1,11 +1,9 @@
 -- The demands bite: an engine that keeps profiles over O2-3 does not meet demand 3. A bare frame leads to O2-3, one with a Profile gives it
 -- the profile 0, and a lost time leads to O1: the ledger has no profile there, and this engine holds one.
 -- Assumes nothing.
-use Prim.Native.Nat.{ℕ}
 use mathlib.Core.Path.{_≡_, _∙_, refl, sym, ap}
 use mathlib.Core.Bool.{false, cond, false≢true}
 use mathlib.Core.List.{List, [], _∷_}
-use Rattle.link.specs.declared.Parity.{Parity}
 use Rattle.link.specs.declared.Parity.the-variants.{NotReceived, Off}
 use Rattle.link.specs.Profiles.{profileAt, parityAt}
 use Rattle.station.specs.declared.Activation.the-variants.{Initial}

@@ -102,9 +102,9 @@ sent-close = ap sendings (sym left-close) ∙ laser-obeys (plannedIn off twoEntr
 ready : Prepared call true
 ready =
     record {
-      bare = record { answer = bare-leads .answer; station = bare-leads .station; memory = bare-leads .memory };
+      starts = record { answer = bare-leads .answer; station = bare-leads .station; memory = bare-leads .memory };
       dark = dark-bare;
-      told = record { answer = told-leads true .answer; station = told-leads true .station; memory = told-leads true .memory };
+      hears = record { answer = told-leads true .answer; station = told-leads true .station; memory = told-leads true .memory };
       unlit = dark-told true;
     }
 

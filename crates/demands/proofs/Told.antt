@@ -77,7 +77,7 @@ knowing-in-range parity = searching-in-range
 unfoldable pub oneMessage : Hlend
 oneMessage = record { bwmap = 0; ploam = 1 }
 
-pub told : Bool → List ℕ
+unfoldable pub told : Bool → List ℕ
 told parity = 0 ∷ 0 ∷ 42 ∷ 115 ∷ signed (telling parity)
 
 told-long : (parity : Bool) → length (told parity) ≡ 52

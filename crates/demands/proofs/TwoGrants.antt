@@ -22,14 +22,13 @@ use Rattle.answers.specs.Answers.{answerNumber}
 use Rattle.entries.specs.declared.Verdict.the-variants.{Planned, ContinuingNothing}
 use Rattle.entries.specs.Names.{nameNumber}
 use Rattle.entries.specs.Standings.{standing, sorted, startUnfit, noRoom, continues, discovery}
-use Rattle.link.specs.declared.Parity.{Parity}
 use Rattle.link.specs.declared.Parity.the-variants.{NotReceived, Off}
 use Rattle.link.specs.Profiles.{profileAt, parityAt}
 use Rattle.series.specs.Series.{Series, entryAt, standings, seriesOf, unknown, outset, planned, judged, wordsOf}
 use Rattle.bwmap.specs.Promises.{Account}
 use Rattle.bwmap.specs.Verdicts.{roles, verdictsOf}
 use Rattle.bwmap.specs.Names.{nameNumbers, namesOf}
-use Rattle.plan.specs.Laser.{Sending, burstsOf}
+use Rattle.plan.specs.Laser.{burstsOf}
 use Rattle.downstream.specs.Lengths.{lengthFits}
 use Rattle.frame.specs.Given.{Arrival, Lent, enough}
 use Rattle.downstream.specs.Partitions.{mapOf}
@@ -116,15 +115,15 @@ off-received e = false≢true (ap unknown e)
 both-planned : (p : List Series) → Account (outset 0) (seriesFrom 0 ∷ seriesFrom 100 ∷ []) p → p ≡ seriesFrom 0 ∷ seriesFrom 100 ∷ []
 unfolding seriesFrom grantAt wordsOf
 both-planned p a =
-    let x = next-planned off-received (omega arith) (omega arith) (omega arith) a in
-    let y = next-planned off-received (omega arith) (omega arith) (omega arith) (x .account) in
+    let x = next-planned {s = seriesFrom 0} off-received (omega arith) (omega arith) (omega arith) a in
+    let y = next-planned {s = seriesFrom 100} off-received (omega arith) (omega arith) (omega arith) (x .account) in
     x .is ∙ ap (λ (l : List Series). seriesFrom 0 ∷ l) (y .is ∙ ap (λ (l : List Series). seriesFrom 100 ∷ l) (none-planned (y .account)))
 
 -- one that goes from power-on to O2-3 and takes the profile as it should, sending nothing on the way, and answers this frame with 0
 pub record Prepared (call : Station → Arrival → Lent → FrameLeft) (parity : Bool) : Type 0 where
-  pub bare : Leads (call fresh (arrives bare) lent) searching
+  pub starts : Leads (call fresh (arrives bare) lent) searching
   pub dark : sendings (call fresh (arrives bare) lent) ≡ []
-  pub told : Leads (call searching (arrives (told parity)) lent) (knowing parity)
+  pub hears : Leads (call searching (arrives (told parity)) lent) (knowing parity)
   pub unlit : sendings (call searching (arrives (told parity)) lent) ≡ []
 
 abbrev pub preparing : Bool → List Call
@@ -132,10 +131,10 @@ preparing parity = frame (arrives bare) buffers ∷ frame (arrives (told parity)
 
 module _ (call : Station → Arrival → Lent → FrameLeft) (parity : Bool) (p : Prepared call parity) where
   begins : Stands (runOf (withFrame call) serial registration memory (frame (arrives bare) buffers ∷ [])) searching searching
-  begins = on call lostLeft _ fresh fresh begun bare searching searching bare-leads (p .bare)
+  begins = on call lostLeft _ fresh fresh begun bare searching searching bare-leads (p .starts)
 
   pub prepared : Stands (runOf (withFrame call) serial registration memory (preparing parity)) (knowing parity) (knowing parity)
-  prepared = on call lostLeft _ searching searching begins (told parity) (knowing parity) (knowing parity) (told-leads parity) (p .told)
+  prepared = on call lostLeft _ searching searching begins (told parity) (knowing parity) (knowing parity) (told-leads parity) (p .hears)
 
   pub first-dark : burstsBy (withFrame call) fresh (start fresh memory) (frame (arrives bare) buffers) ≡ []
   first-dark = ap (placed (profileIn fresh []) 0) (p .dark)

@@ -8,7 +8,6 @@ use Rattle.station.specs.declared.Activation.the-variants.{SerialNumber}
 use Rattle.station.specs.declared.Station.{Station}
 use Rattle.station.specs.States.{holdsIdentity}
 use Rattle.station.specs.Station.{powerOn}
-use Rattle.link.specs.declared.Profiles.{Profiles}
 use Rattle.link.specs.Profiles.{noProfiles}
 use Rattle.entries.specs.declared.Own.{Own}
 use Rattle.ledger.specs.Events.{Event, stationOf}
