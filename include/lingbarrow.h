@@ -28,9 +28,9 @@
 #error "Lingbarrow is code for 64-bit x86-64 Linux; define LINGBARROW_ANY_TARGET to check syntax for another target"
 #endif
 
-#define LINGBARROW_VERSION "0.4.0"
+#define LINGBARROW_VERSION "0.5.0"
 #define LINGBARROW_VERSION_MAJOR 0
-#define LINGBARROW_VERSION_MINOR 3
+#define LINGBARROW_VERSION_MINOR 5
 #define LINGBARROW_VERSION_PATCH 0
 
 #ifdef __cplusplus
@@ -38,7 +38,7 @@ extern "C" {
 #endif
 
 /* Lengths of the lent buffers: what is shorter is answered 3, what is longer is not touched past its length. */
-#define LINGBARROW_STATE_BYTES (LINGBARROW_AT_CARRIED + 2) /* 208 */
+#define LINGBARROW_STATE_BYTES (LINGBARROW_AT_CARRIED + 2) /* 212 */
 #define LINGBARROW_SERIAL_BYTES 8
 #define LINGBARROW_REGISTRATION_BYTES 36
 #define LINGBARROW_KEY_BYTES 16
@@ -89,18 +89,19 @@ extern "C" {
 #define LINGBARROW_O7 7
 
 /* What became of a structure of the map, as lingbarrow_why_dark names it: the first of these that is so, but for the last, which comes
- * before all. The last three but one are of a whole burst, and each of its structures has the burst's name. */
+ * before all. The last four but one are of a whole burst, and each of its structures has the burst's name. */
 #define LINGBARROW_NAME_PLANNED 0
-#define LINGBARROW_NAME_UNREADABLE 1         /* no true word is near */
-#define LINGBARROW_NAME_START_TIME_UNFIT 2   /* 9720 to 65534 */
-#define LINGBARROW_NAME_DBRU_WITHOUT_ROOM 3  /* DBRu with GrantSize 0 */
-#define LINGBARROW_NAME_FOREIGN 4            /* not ours in this state: another's Alloc-ID, or a grant that this state does not take */
-#define LINGBARROW_NAME_CONTINUING_NOTHING 5 /* ours and continuing, behind an entry of no burst of ours */
-#define LINGBARROW_NAME_SEVENTEENTH 6        /* ours and continuing, straight behind the sixteen of a burst */
-#define LINGBARROW_NAME_TOO_LONG 7           /* a burst of more than 9720 words */
-#define LINGBARROW_NAME_OVERLAPPING 8        /* a burst that starts before the last planned one has ended */
-#define LINGBARROW_NAME_AFTER_THE_FOURTH 9   /* a burst behind four planned ones */
-#define LINGBARROW_NAME_SILENT 10            /* a state that sends nothing: O1, O6, O7 */
+#define LINGBARROW_NAME_UNREADABLE 1            /* no true word is near */
+#define LINGBARROW_NAME_START_TIME_UNFIT 2      /* 9720 to 65534 */
+#define LINGBARROW_NAME_DBRU_WITHOUT_ROOM 3     /* DBRu with GrantSize 0 */
+#define LINGBARROW_NAME_FOREIGN 4               /* not ours in this state: another's Alloc-ID, or a grant that this state does not take */
+#define LINGBARROW_NAME_CONTINUING_NOTHING 5    /* ours and continuing, behind an entry of no burst of ours */
+#define LINGBARROW_NAME_SEVENTEENTH 6           /* ours and continuing, straight behind the sixteen of a burst */
+#define LINGBARROW_NAME_PROFILE_NOT_RECEIVED 11 /* a burst whose head's profile no Profile message gave */
+#define LINGBARROW_NAME_TOO_LONG 7              /* a burst of more than 9720 words, parity counted */
+#define LINGBARROW_NAME_OVERLAPPING 8           /* a burst that starts before the last planned one has ended */
+#define LINGBARROW_NAME_AFTER_THE_FOURTH 9      /* a burst behind four planned ones */
+#define LINGBARROW_NAME_SILENT 10               /* a state that sends nothing: O1, O6, O7 */
 
 /* Answers, tested in the order of the numbers: of all that is wrong the lowest number is answered. Only a state that is too short is
  * answered 3 before all else: there are no bytes to test. After 1, 2, 3 and 7 to 11 nothing is changed, except that the frame call, the
@@ -124,11 +125,12 @@ extern "C" {
  *
  * Its first byte is the version of this form. Bytes of another version, or of a library that had none, are no state's and answered 1:
  * lingbarrow_in_range says so of a state that was saved, before anything is done with it. */
-#define LINGBARROW_STATE_VERSION 8
+#define LINGBARROW_STATE_VERSION 9
 
 /* At most so many are held, and a state has room for as many: */
 #define LINGBARROW_ADDED_ALLOCS 16 /* added Alloc-IDs */
 #define LINGBARROW_MOST_OWED 8     /* answers owed */
+#define LINGBARROW_PROFILES 4      /* burst profiles: always so many, received or not */
 #define LINGBARROW_ADDED_PORTS 16  /* added ports */
 #define LINGBARROW_SLOTS 17        /* slots of port memory: of the management port, and of each added port */
 
@@ -146,10 +148,16 @@ extern "C" {
 #define LINGBARROW_AT_KEY (LINGBARROW_AT_KEY_HELD + 1)                                      /* 16: secret */
 #define LINGBARROW_AT_OWED_COUNT (LINGBARROW_AT_KEY + LINGBARROW_KEY_BYTES)                 /* 1: how many are owed */
 #define LINGBARROW_AT_OWED (LINGBARROW_AT_OWED_COUNT + 1)                                   /* 2 each, the oldest first: 0 for a Registration, else completion code + 1; SeqNo */
-#define LINGBARROW_AT_PORT_IDS (LINGBARROW_AT_OWED + 2 * LINGBARROW_MOST_OWED)              /* 2 each, 0 where the slot is empty */
+#define LINGBARROW_AT_PROFILES (LINGBARROW_AT_OWED + 2 * LINGBARROW_MOST_OWED)              /* 1 for each index: LINGBARROW_PROFILE_NOT_RECEIVED, _OFF, _ON */
+#define LINGBARROW_AT_PORT_IDS (LINGBARROW_AT_PROFILES + LINGBARROW_PROFILES)               /* 2 each, 0 where the slot is empty */
 #define LINGBARROW_AT_PARTIALS (LINGBARROW_AT_PORT_IDS + 2 * LINGBARROW_ADDED_PORTS)        /* 2 each: bytes of the slot's unfinished SDU */
 #define LINGBARROW_AT_WAITING (LINGBARROW_AT_PARTIALS + 2 * LINGBARROW_SLOTS)               /* 1 each: 1 while the slot's port waits, else 0 */
 #define LINGBARROW_AT_CARRIED (LINGBARROW_AT_WAITING + LINGBARROW_SLOTS)                    /* 2: words that the last burst takes of the next frame */
+
+/* What a state knows of a burst profile, at LINGBARROW_AT_PROFILES plus its index. */
+#define LINGBARROW_PROFILE_NOT_RECEIVED 0
+#define LINGBARROW_PROFILE_OFF 1 /* received: bursts without parity */
+#define LINGBARROW_PROFILE_ON 2  /* received: bursts with parity */
 
 /* Bytes of stack that a call takes at most, its arguments and return address included, as measured on this build by tests/stack,
  * which fails if a call takes more. What the caller's own frames, a signal handler or an interrupt need comes on top. */
@@ -203,6 +211,9 @@ uint8_t lingbarrow_why_dark(const uint8_t *state, size_t state_length, const uin
  * The plan gets records of four numbers: Alloc-ID; flags; burst start; GrantSize. Burst start is the head's StartTime, on each
  * record of the burst: the word of 4 bytes in the upstream frame, 0 to 9719, where the burst's first byte stands (PSBu goes in front
  * of it). It is counted before any delay: the sender adds its response time and the equalization delay, and in O2-3 the random delay.
+ * Nothing is planned on a burst profile that no Profile message gave: the head end broadcasts it before it grants on it, and it counts
+ * from the next frame on. Where the profile switches parity on, a burst takes 4 words more for each begun 58 (10.3.2): what does not
+ * fit or overlaps with them is not planned. GrantSize is the map's.
  *   - equalization delay, at LINGBARROW_AT_DELAY: what the head end gave by Ranging_Time, so that bursts of all terminals arrive in
  *     step. Bit times of 2.48832 Gbit/s.
  *   - `random_delay`: what the caller drew for a burst in O2-3, so that terminals not yet known do not collide. The same bit times. The

@@ -6,8 +6,11 @@ mod rng;
 pub use rng::Rng;
 use xgpon_peer::{Activation, Owed, Station};
 
-pub const STATE: usize = 208;
-pub const STATE_VERSION: u8 = 8;
+pub const STATE: usize = 212;
+pub const STATE_VERSION: u8 = 9;
+/// Where the four profiles stand.
+#[allow(dead_code)]
+pub const PROFILES_AT: usize = 123;
 
 #[allow(dead_code)]
 extern "C" {
@@ -51,9 +54,10 @@ pub fn octets(s: &Station) -> [u8; STATE] {
             Owed::Acknowledge(seq, code) => [code as u8 + 1, seq],
         });
     }
+    o.extend(s.profiles.iter().map(|p| p.map_or(0, |p| 1 + p.parity as u8)));
     s.ports.iter().for_each(|p| o.extend(p.map_or(0, |p| p.0).to_be_bytes()));
     s.partial.iter().for_each(|n| o.extend(n.to_be_bytes()));
     o.extend(s.waiting.iter().map(|w| *w as u8));
     o.extend(s.carried.to_be_bytes());
-    o.try_into().expect("208 octets")
+    o.try_into().expect("212 octets")
 }

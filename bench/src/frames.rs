@@ -40,7 +40,7 @@ fn buffers() -> Buffers {
     }
 }
 
-/// In O5, ONU-ID 5, a key, sixteen Alloc-IDs and sixteen ports that don't wait.
+/// In O5, ONU-ID 5, a key, sixteen Alloc-IDs, sixteen ports that don't wait, and all profiles without parity.
 fn operating() -> Station {
     let mut s = Station::power_on(*b"VNDR\x00\x11\x22\x33", [7; 36]);
     s.activation = Activation::Operation;
@@ -52,6 +52,7 @@ fn operating() -> Station {
         s.ports[i] = Some(PortId(3000 + 11 * i as u16));
     }
     s.waiting = [false; SLOTS];
+    s.profiles = [Some(Profile { parity: false }); 4];
     assert!(s.in_range());
     s
 }
@@ -239,6 +240,9 @@ fn main() {
         series = if i % 17 == 0 { series.head(5, false, 80 * (i / 17), 2) } else { series.next(2000 + 37 * (i % 16), false, 1) };
     }
     measure_map("2,047 entries of ours, in series of seventeen", &s, &series.bytes());
+    let mut with_parity = s.clone();
+    with_parity.profiles = [Some(Profile { parity: true }); 4];
+    measure_map("    the same with parity", &with_parity, &series.bytes());
     let mut silent = s.clone();
     silent.activation = Activation::Intermittent(800);
     measure_map("2,047 foreign entries, in O6", &silent, &map.bytes());

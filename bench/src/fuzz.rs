@@ -8,8 +8,8 @@ mod exported;
 use exported::*;
 use xgpon_peer::headend::{self, Frame};
 use xgpon_peer::limits::*;
-use xgpon_peer::ploam::Completion;
-use xgpon_peer::{frame, stretch, why_dark, Activation, AllocId, Allocation, Lent, OnuId, Owed, PortId, Station};
+use xgpon_peer::ploam::{downstream::PROFILE, Completion};
+use xgpon_peer::{frame, stretch, why_dark, Activation, AllocId, Allocation, Lent, OnuId, Owed, PortId, Profile, Station};
 
 const COUNTS_BEFORE: [usize; 3] = [7, 7, 7];
 
@@ -60,6 +60,8 @@ fn make_frame(rng: &mut Rng, s: &Station) -> Vec<u8> {
     let mut at = rng.below(200) as u16;
     // in some maps series of ours go on until they are too long
     let long = rng.once_in(6);
+    // mostly on a profile that was received
+    let heard: Vec<u8> = (0..4).filter(|i| s.profiles[usize::from(*i)].is_some()).collect();
     let ours: Vec<u16> = numbers.iter().copied().filter(|n| *n != 1023 && *n != 1022 && *n != 4711).collect();
     for _ in 0..rng.pick(&[0u64, 0, 1, 2, 3, 6, 20, 40, 40, 300]) {
         let continues = if long { !rng.once_in(24) } else { rng.once_in(3) };
@@ -71,7 +73,7 @@ fn make_frame(rng: &mut Rng, s: &Station) -> Vec<u8> {
             at
         };
         let discovery = s.onu_id.0 == 1023 && !rng.once_in(4);
-        let grant = if discovery { 0 } else { rng.pick(&[0, 0, 1, 5, 40, 200, 3000, 9718, 9719, 65535]) };
+        let grant = if discovery { 0 } else { rng.pick(&[0, 0, 1, 5, 40, 200, 3000, 9078, 9079, 9090, 9091, 9718, 9719, 65535]) };
         let a = Allocation {
             alloc: AllocId(if discovery { 1023 } else { rng.pick(if long && !ours.is_empty() { &ours } else { &numbers }) & 0x3FFF }),
             dbru: !long && rng.once_in(5),
@@ -79,7 +81,7 @@ fn make_frame(rng: &mut Rng, s: &Station) -> Vec<u8> {
             start,
             grant,
             fwi: rng.once_in(4),
-            profile: rng.below(4) as u8,
+            profile: if heard.is_empty() || rng.once_in(6) { rng.below(4) as u8 } else { rng.pick(&heard) },
             ..Default::default()
         };
         f = f.entry(a);
@@ -89,7 +91,7 @@ fn make_frame(rng: &mut Rng, s: &Station) -> Vec<u8> {
         let to = OnuId(rng.pick(&[s.onu_id.0, s.onu_id.0, s.onu_id.0, 1023, 77]));
         let seq = rng.next() as u8;
         let own = if rng.once_in(5) { [9; 8] } else { s.serial };
-        let mut m = match rng.below(9) {
+        let mut m = match rng.below(12) {
             0 | 1 => headend::assign_onu_id(seq, rng.pick(&[0, 5, 77, 1022, 1023]), &own),
             2 | 3 => headend::ranging_time(to, seq, rng.pick(&[0x80, 0x80, 0, 0x40, 0xC0, 1]), rng.next() as u32, if to.0 == 1023 { &[0x55; 16] } else { &key }),
             4 | 5 => headend::assign_alloc_id(to, seq, rng.pick(&[1023, 1024, 1025, 2000, 16383, 1030, 1031, 1032, 1033, 1034]), rng.pick(&[1, 1, 1, 255, 7]), &key),
@@ -99,6 +101,9 @@ fn make_frame(rng: &mut Rng, s: &Station) -> Vec<u8> {
                 1 => headend::disable(seq, rng.pick(&[0xFF, 0x0F, 0x3F]), &own),
                 _ => headend::disable(seq, rng.pick(&[0x00, 0xF0]), &own),
             },
+            // of a Profile two bits of octet 5 and one of octet 6 count, whatever the others are
+            8 | 9 => headend::sealed(OnuId::NONE, PROFILE, seq, &rng.next().to_be_bytes(), &[0x55; 16]),
+            10 => headend::sealed(to, PROFILE, seq, &rng.next().to_be_bytes(), if to.0 == 1023 { &[0x55; 16] } else { &key }),
             _ => headend::sealed(to, rng.next() as u8, seq, &[], if to.0 == 1023 { &[0x55; 16] } else { &key }),
         };
         // one that is not right among others that are
@@ -167,7 +172,7 @@ fn all_stretches(rng: &mut Rng, state: *const u8, peer: &Station, f: &[u8]) -> u
 /// What became of each structure of the frame's map, before its frame call: as the independent engine names it, and past the names the
 /// list is as it was. A list that is too short, or no room for the count, is answered 3 where 1 and 2 is not the answer. What is returned
 /// is how many are named planned.
-fn names(rng: &mut Rng, state: *const u8, peer: &Station, f: &[u8], named: &mut [u64; 11]) -> usize {
+fn names(rng: &mut Rng, state: *const u8, peer: &Station, f: &[u8], named: &mut [u64; 12]) -> usize {
     let call = |names: &mut [u8], count: &mut [usize]| unsafe {
         lingbarrow_why_dark(state, STATE, f.as_ptr(), f.len(), names.as_mut_ptr(), names.len(), count.as_mut_ptr(), count.len())
     };
@@ -197,7 +202,7 @@ fn deliveries(mut of: &[u8]) -> usize {
 
 /// A state that no run need reach, in range or not.
 fn unsettle(rng: &mut Rng, s: &mut Station) {
-    match rng.below(12) {
+    match rng.below(13) {
         0 => s.activation = rng.pick(&[Activation::Initial, Activation::SerialNumber, Activation::Operation, Activation::EmergencyStop]),
         1 => s.activation = Activation::Ranging(rng.pick(&[0, 1, 2, 80_000, 80_001])),
         2 => s.activation = Activation::Intermittent(rng.pick(&[0, 1, 800, 801])),
@@ -209,6 +214,7 @@ fn unsettle(rng: &mut Rng, s: &mut Station) {
         8 => s.ports[rng.below(16) as usize] = rng.pick(&[None, Some(PortId(1022)), Some(PortId(1023)), Some(PortId(1024)), Some(PortId(65534)), Some(PortId(65535))]),
         9 => s.partial[rng.below(17) as usize] = rng.pick(&[0, 1, 2047, 2048, 2049]),
         10 => s.waiting[rng.below(17) as usize] ^= true,
+        11 => s.profiles[rng.below(4) as usize] = rng.pick(&[None, Some(Profile { parity: false }), Some(Profile { parity: true })]),
         _ => s.carried = rng.pick(&[0, 1, 9719, 9720]),
     }
 }
@@ -217,7 +223,7 @@ fn main() {
     let mut args = std::env::args().skip(1).map(|a| a.parse::<u64>().expect("a number"));
     let calls = args.next().unwrap_or(200_000);
     let mut rng = Rng(args.next().unwrap_or(0x9E37_79B9_7F4A_7C15) | 1);
-    let (mut answers, mut kinds, mut states, mut written, mut named) = ([0u64; 12], [0u64; 6], [0u64; 8], [0usize; 3], [0u64; 11]);
+    let (mut answers, mut kinds, mut states, mut written, mut named) = ([0u64; 12], [0u64; 6], [0u64; 8], [0usize; 3], [0u64; 12]);
     let mut done = 0;
     while done < calls {
         let (serial, id) = ([rng.next() as u8; 8], [rng.next() as u8; 36]);
@@ -238,11 +244,14 @@ fn main() {
                     unsettle(&mut rng, &mut other);
                 }
                 ours[..STATE].copy_from_slice(&octets(&other));
-                let another_version = rng.once_in(4);
-                if another_version {
-                    ours[0] = rng.pick(&[0, 1, 2, 4, 5, 6, 7, STATE_VERSION + 1, 255]);
+                // another version, or a profile that is none
+                let no_states = rng.once_in(3);
+                if no_states && rng.once_in(2) {
+                    ours[0] = rng.pick(&[0, 1, 2, 4, 5, 6, 7, STATE_VERSION - 1, STATE_VERSION + 1, 255]);
+                } else if no_states {
+                    ours[PROFILES_AT + rng.below(4) as usize] = rng.pick(&[3, 4, 127, 255]);
                 }
-                if other.in_range() && !another_version {
+                if other.in_range() && !no_states {
                     // both go on from it
                     peer = other;
                 } else {
@@ -299,7 +308,7 @@ fn main() {
                             1,
                         ]
                     };
-                    assert_eq!(said, if another_version { [1; 6] } else { by() }, "a state out of range");
+                    assert_eq!(said, if no_states { [1; 6] } else { by() }, "a state out of range");
                     assert_eq!((counts, place), ([0; 3], [0; 2]));
                     assert_eq!(ours, before, "a state out of range changed");
                     assert!(lent == theirs, "a lent buffer changed");
@@ -403,6 +412,6 @@ fn main() {
     }
     println!("fuzz: {done} calls the same; frames {}, lost {}, ports {} and {}, keys {}, stretches {}", kinds[0], kinds[1], kinds[2], kinds[3], kinds[4], kinds[5]);
     println!("fuzz: answers 0 to 10 {:?}, calls that left O1 to O7 {:?}", &answers[..11], &states[1..]);
-    println!("fuzz: structures named 0 to 10 {named:?}");
+    println!("fuzz: structures named 0 to 11 {named:?}");
     println!("fuzz: {} plan records, {} replies, {} bytes delivered", written[0], written[1], written[2]);
 }

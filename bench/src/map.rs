@@ -4,7 +4,7 @@
 use crate::{compare, Rng};
 use std::hint::black_box;
 use xgpon_peer::limits::{FRAME_MAX, MEMORY_BYTES, PLAN_NUMBERS, REPLY_BYTES};
-use xgpon_peer::{frame, Activation, AllocId, Allocation, Hlend, Lent, OnuId, Station};
+use xgpon_peer::{frame, Activation, AllocId, Allocation, Hlend, Lent, OnuId, Profile, Station};
 
 extern "C" {
     fn bench_plan(map: *const u8, map_len: usize, plan: *mut u16, plan_len: usize) -> usize;
@@ -26,8 +26,11 @@ fn foreign(i: usize) -> u64 {
     a.word().unwrap()
 }
 
+/// Of the station's profiles three are without parity, and the last is with.
+const WITH_PARITY: u8 = 3;
+
 /// An entry that may be ours, may continue, may be damaged.
-fn any(rng: &mut Rng) -> u64 {
+fn any(rng: &mut Rng, parity: bool) -> u64 {
     let a = Allocation {
         alloc: AllocId(match rng.next() % 6 {
             0 => 5,
@@ -40,7 +43,7 @@ fn any(rng: &mut Rng) -> u64 {
         start: if rng.next() % 2 == 0 { 65_535 } else { (rng.next() % 9_730) as u16 },
         grant: (rng.next() % if rng.next() % 8 == 0 { 12_000 } else { 40 }) as u16,
         fwi: rng.next() % 2 == 0,
-        profile: (rng.next() % 4) as u8,
+        profile: if parity { WITH_PARITY } else { (rng.next() % 3) as u8 },
     };
     let word = a.word().unwrap();
     match rng.next() % 8 {
@@ -63,6 +66,8 @@ impl Both {
         let mut station = Station::power_on([1; 8], [7; 36]);
         station.activation = Activation::Operation;
         station.onu_id = OnuId(5);
+        station.profiles = [Some(Profile { parity: false }); 4];
+        station.profiles[usize::from(WITH_PARITY)] = Some(Profile { parity: true });
         station.alloc_count = 16;
         for i in 0..16 {
             station.allocs[i] = AllocId(2000 + 11 * i as u16);
@@ -106,7 +111,7 @@ pub fn run(measure: bool) {
     let mut rng = Rng(0x2545_F491_4F6C_DD1D);
     let mut records = 0;
     for n in 0..2000 {
-        let words: Vec<u64> = (0..n % 60).map(|_| any(&mut rng)).collect();
+        let words: Vec<u64> = (0..n % 60).map(|_| any(&mut rng, n % 2 == 0)).collect();
         records += same("any entries", &words);
     }
     assert!(records > 2000);
@@ -118,8 +123,8 @@ pub fn run(measure: bool) {
             w ^ 1 << a ^ 1 << b
         })
         .collect();
-    let mixed: Vec<u64> = (0..MOST_ENTRIES).map(|_| any(&mut rng)).collect();
-    for (name, words) in [("foreign entries", &clean), ("foreign, two bits flipped", &two), ("any entries", &mixed)] {
+    let [mixed, parity] = [false, true].map(|parity| (0..MOST_ENTRIES).map(|_| any(&mut rng, parity)).collect::<Vec<u64>>());
+    for (name, words) in [("foreign entries", &clean), ("foreign, two bits flipped", &two), ("any entries", &mixed), ("any entries, with parity", &parity)] {
         same(name, words);
         if measure {
             let f = framed(words);

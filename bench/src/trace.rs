@@ -9,7 +9,7 @@ use std::io::{self, Write};
 use std::process::{Command, Stdio};
 use std::time::Instant;
 use xgpon_peer::cmac::DEFAULT_KEY;
-use xgpon_peer::headend::{assign_alloc_id, assign_onu_id, deactivate, ranging_time, Frame};
+use xgpon_peer::headend::{assign_alloc_id, assign_onu_id, deactivate, profile, ranging_time, Frame};
 use xgpon_peer::OnuId;
 
 const FRAME: usize = 1020;
@@ -20,13 +20,18 @@ fn frame(out: &mut Vec<u8>, f: Frame) {
     out.extend_from_slice(&f.idle_to(FRAME).bytes());
 }
 
-/// A station comes up, plans and delivers, loses the signal and is sent away; then a record of kind 2.
+/// A station comes up, hears of profile 0, without parity, plans and delivers, loses the signal and is sent away; then a record of kind 2.
 fn sample() -> Vec<u8> {
     let own = OnuId(5);
     let mut out = Vec::new();
     frame(&mut out, Frame::new());
-    frame(&mut out, Frame::new().head(1023, true, 0, 0));
-    frame(&mut out, Frame::new().message(assign_onu_id(1, 5, &[0; 8])));
+    frame(&mut out, Frame::new().message(profile(OnuId::NONE, 1, 0, false, &DEFAULT_KEY)));
+    frame(
+        &mut out,
+        Frame::new()
+            .head(1023, true, 0, 0)
+            .message(assign_onu_id(1, 5, &[0; 8])),
+    );
     frame(
         &mut out,
         Frame::new()

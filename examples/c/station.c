@@ -3,12 +3,14 @@
 #include <stdio.h>
 #include <string.h>
 
-/* Assign_ONU-ID 5 to the serial number below, and Ranging_Time to ONU-ID 5: absolute, 1,000 bit times. Each as its front and its
- * integrity field under the default key; between them are zeros. */
+/* Assign_ONU-ID 5 to the serial number below, Ranging_Time to ONU-ID 5: absolute, 1,000 bit times, and Profile to all: index 0, version 1,
+ * without parity. Each as its front and its integrity field under the default key; between them are zeros. */
 static const uint8_t assign[] = {0x03, 0xff, 0x03, 0x01, 0x00, 0x05, 'L', 'B', 'R', 'W', 0x00, 0x00, 0x00, 0x01};
 static const uint8_t assign_integrity[] = {0xf0, 0x66, 0x17, 0x51, 0x26, 0xb0, 0x04, 0xa1};
 static const uint8_t ranging[] = {0x00, 0x05, 0x04, 0x02, 0x01, 0x00, 0x00, 0x03, 0xe8};
 static const uint8_t ranging_integrity[] = {0xd2, 0xc5, 0xec, 0x7e, 0x42, 0x93, 0x6a, 0xc3};
+static const uint8_t profile[] = {0x03, 0xff, 0x01, 0x03, 0x10, 0x00};
+static const uint8_t profile_integrity[] = {0xb1, 0x23, 0x6c, 0x8e, 0x57, 0x58, 0xd1, 0xa6};
 
 /* The station's own: both are handed on from call to call. */
 static uint8_t state[LINGBARROW_STATE_BYTES];
@@ -40,7 +42,7 @@ int main(void)
     static const uint8_t serial[LINGBARROW_SERIAL_BYTES] = {'L', 'B', 'R', 'W', 0, 0, 0, 1};
     static const uint8_t registration[LINGBARROW_REGISTRATION_BYTES] = {0};
     static const uint8_t sdu[] = {'h', 'e', 'l', 'l', 'o'};
-    uint8_t frame[4 + 2 * LINGBARROW_MESSAGE_BYTES];
+    uint8_t frame[4 + 3 * LINGBARROW_MESSAGE_BYTES];
     size_t place[LINGBARROW_PLACE];
     lingbarrow_onu_id onu;
 
@@ -51,11 +53,12 @@ int main(void)
     if (lingbarrow_write_hlend(0, 0, frame, sizeof frame) || arrive(frame, 4))
         return 1;
 
-    /* Both messages act in one frame: O2-3 to O4 to O5. */
-    if (lingbarrow_write_hlend(0, 2, frame, sizeof frame))
+    /* All three messages act in one frame: O2-3 to O4 to O5, and nothing is planned on a profile before it was received. */
+    if (lingbarrow_write_hlend(0, 3, frame, sizeof frame))
         return 1;
     message(assign, sizeof assign, assign_integrity, frame + 4);
     message(ranging, sizeof ranging, ranging_integrity, frame + 4 + LINGBARROW_MESSAGE_BYTES);
+    message(profile, sizeof profile, profile_integrity, frame + 4 + 2 * LINGBARROW_MESSAGE_BYTES);
     if (arrive(frame, sizeof frame))
         return 1;
 

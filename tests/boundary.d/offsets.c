@@ -41,6 +41,8 @@ int main(void)
     number("the equalization delay", LINGBARROW_AT_DELAY, 4, 1000);
     number("that a key is held", LINGBARROW_AT_KEY_HELD, 1, 1);
     octets("the key", LINGBARROW_AT_KEY, key, sizeof key);
+    number("profile 0", LINGBARROW_AT_PROFILES, 1, LINGBARROW_PROFILE_OFF);
+    number("the other profiles", LINGBARROW_AT_PROFILES + 1, LINGBARROW_PROFILES - 1, LINGBARROW_PROFILE_NOT_RECEIVED);
     number("the first port", LINGBARROW_AT_PORT_IDS, 2, 2000);
     number("the carried words", LINGBARROW_AT_CARRIED, LINGBARROW_STATE_BYTES - LINGBARROW_AT_CARRIED, 0);
 

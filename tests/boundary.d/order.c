@@ -60,13 +60,15 @@ int main(void)
     refused("a state in range", LINGBARROW_AT_STATE, LINGBARROW_O5, bytes, LINGBARROW_DONE, LINGBARROW_FRAME_LENGTH, LINGBARROW_BUFFER_TOO_SHORT);
     refused("a state that is too short", LINGBARROW_AT_STATE, LINGBARROW_O5, bytes - 1, LINGBARROW_BUFFER_TOO_SHORT, LINGBARROW_BUFFER_TOO_SHORT,
             LINGBARROW_BUFFER_TOO_SHORT);
-    /* 5 is what an older library had there */
+    /* 5 is what an older library had there, and 8 */
     for (uint8_t version = 0; version < 16; version++)
         if (version != LINGBARROW_STATE_VERSION)
             refused("a state of another version", LINGBARROW_AT_VERSION, version, bytes, LINGBARROW_STATE_OUT_OF_RANGE, LINGBARROW_STATE_OUT_OF_RANGE,
                     LINGBARROW_STATE_OUT_OF_RANGE);
     refused("bytes that are no state's", LINGBARROW_AT_STATE, 3, bytes, LINGBARROW_STATE_OUT_OF_RANGE, LINGBARROW_STATE_OUT_OF_RANGE,
             LINGBARROW_STATE_OUT_OF_RANGE);
+    refused("a profile that is none", LINGBARROW_AT_PROFILES + LINGBARROW_PROFILES - 1, LINGBARROW_PROFILE_ON + 1, bytes, LINGBARROW_STATE_OUT_OF_RANGE,
+            LINGBARROW_STATE_OUT_OF_RANGE, LINGBARROW_STATE_OUT_OF_RANGE);
     refused("a state out of range", LINGBARROW_AT_ALLOC_COUNT, LINGBARROW_ADDED_ALLOCS + 1, bytes, LINGBARROW_STATE_OUT_OF_RANGE,
             LINGBARROW_STATE_OUT_OF_RANGE, LINGBARROW_STATE_OUT_OF_RANGE);
     return wrong;

@@ -135,7 +135,12 @@ static void say_state(void)
         SAY("%c", slot && !held(LINGBARROW_AT_PORT_IDS + 2 * (slot - 1), 2) ? '-' : state[LINGBARROW_AT_WAITING + slot] ? 'w' : '.');
     for (size_t slot = 0; slot < LINGBARROW_SLOTS; slot++)
         SAY("%s%lu", slot ? "," : " ", held(LINGBARROW_AT_PARTIALS + 2 * slot, 2));
-    SAY(" %lu]", held(LINGBARROW_AT_CARRIED, 2));
+    SAY(" %lu ", held(LINGBARROW_AT_CARRIED, 2));
+    for (size_t i = 0; i < LINGBARROW_PROFILES; i++)
+        SAY("%c", state[LINGBARROW_AT_PROFILES + i] == LINGBARROW_PROFILE_NOT_RECEIVED ? '-'
+                  : state[LINGBARROW_AT_PROFILES + i] == LINGBARROW_PROFILE_OFF        ? '0'
+                                                                                       : '1');
+    SAY("]");
 }
 
 /* zlib's CRC-32. */

@@ -16,6 +16,9 @@ static const uint8_t default_key[] = {0x55, 0x55, 0x55, 0x55, 0x55, 0x55, 0x55, 
 const struct kind staying[] = {
     [RELATIVE] = {"Ranging_Time, relative", OWN, RANGING_TIME, {0, 0, 0, 0, 1}, IN(O5), 0, ACKNOWLEDGEMENT, OK},
     [RELATIVE_TO_ALL] = {"Ranging_Time to all, relative", EVERYONE, RANGING_TIME, {0, 0, 0, 0, 1}, IN(O5), 0, 0, 0},
+    [PLAIN_TO_ALL] = {"Profile to all, without parity", EVERYONE, PROFILE, {0x10 | PLAIN}, IN(O2_3) | IN(O4) | IN(O5), 0, 0, 0},
+    [PARITY_TO_ALL] = {"Profile to all, with parity", EVERYONE, PROFILE, {0x10 | PARITY, 1}, IN(O2_3) | IN(O4) | IN(O5), 0, 0, 0},
+    {"Profile", OWN, PROFILE, {0x10 | PLAIN}, IN(O5), 0, ACKNOWLEDGEMENT, OK},
     {"Ranging_Time, out of range", OWN, RANGING_TIME, {SUBTRACT, 0xff, 0xff, 0xff, 0xff}, IN(O5), 0, ACKNOWLEDGEMENT, PARAMETER_ERROR},
     {"Ranging_Time to all, out of range", EVERYONE, RANGING_TIME, {SUBTRACT, 0xff, 0xff, 0xff, 0xff}, 0, 0, 0, 0},
     {"Ranging_Time to all, absolute", EVERYONE, RANGING_TIME, {ABSOLUTE, 0, 0, 0, 9}, 0, 0, 0, 0},
@@ -28,8 +31,6 @@ const struct kind staying[] = {
     {"Request_Registration", OWN, REQUEST_REGISTRATION, {0}, IN(O5), 0, REGISTRATION, 0},
     {"an unknown type", OWN, NO_SUCH_TYPE, {0}, IN(O5), 0, ACKNOWLEDGEMENT, UNKNOWN_TYPE},
     {"an unknown type to all", EVERYONE, NO_SUCH_TYPE, {0}, 0, 0, 0, 0},
-    {"Profile", OWN, PROFILE, {0x10}, 0, 0, 0, 0},
-    {"Profile to all", EVERYONE, PROFILE, {0x10}, 0, 0, 0, 0},
     {"Key_Control", OWN, KEY_CONTROL, {0, 1, 1, 16}, 0, 0, 0, 0},
     {"Key_Control to all", EVERYONE, KEY_CONTROL, {0, 1, 1, 16}, 0, 0, 0, 0},
     {"Sleep_Allow", OWN, SLEEP_ALLOW, {1}, 0, 0, 0, 0},
@@ -71,6 +72,7 @@ void forget(struct believed *s)
     s->keyed = false;
     s->delay = 0;
     s->owing = 0;
+    memset(s->profiles, LINGBARROW_PROFILE_NOT_RECEIVED, sizeof s->profiles);
     all_wait(s);
 }
 
@@ -126,15 +128,21 @@ static void expect_reply(void)
     mic(r.type == ACKNOWLEDGEMENT && station.keyed ? key : default_key, UPSTREAM, m, m + 40);
 }
 
-void put_entry(unsigned alloc, unsigned dbru, unsigned ploamu, unsigned start, unsigned grant, bool planned)
+void put_entry_on(unsigned profile, unsigned alloc, unsigned dbru, unsigned ploamu, unsigned start, unsigned grant, bool planned)
 {
-    must(lingbarrow_write_allocation(lingbarrow_alloc_id_of((uint16_t)alloc), dbru, ploamu, start, grant, 0, 2, frame + frame_length, 8));
+    planned = planned && station.profiles[profile] != LINGBARROW_PROFILE_NOT_RECEIVED;
+    must(lingbarrow_write_allocation(lingbarrow_alloc_id_of((uint16_t)alloc), dbru, ploamu, start, grant, 0, profile, frame + frame_length, 8));
     header[headers++] = frame_length;
     frame_length += 8;
     entries++;
     expected.records += planned;
     if (planned && ploamu && start != CONTINUES)
         expect_reply();
+}
+
+void put_entry(unsigned alloc, unsigned dbru, unsigned ploamu, unsigned start, unsigned grant, bool planned)
+{
+    put_entry_on(PLAIN, alloc, dbru, ploamu, start, grant, planned);
 }
 
 static void act(const struct kind *k, uint8_t seq)
@@ -148,6 +156,8 @@ static void act(const struct kind *k, uint8_t seq)
         after.owed[after.owing++] = (struct reply){k->owes, seq, k->code};
     if (k->type == RANGING_TIME && k->code == OK)
         after.delay = c[0] & ABSOLUTE ? amount : after.delay + amount;
+    if (k->type == PROFILE)
+        after.profiles[c[0] & 3] = c[1] & 1 ? LINGBARROW_PROFILE_ON : LINGBARROW_PROFILE_OFF;
     if (k->leads_to == O1 || k->leads_to == O7)
         forget(&after);
     if (k->leads_to == O5 && after.state == O4)

@@ -24,6 +24,9 @@ enum {
     MOST_BURSTS = 4
 };
 
+/* Burst profiles: one that is received without parity, one with, and one that never is. */
+enum { UNHEARD = 1, PLAIN = 2, PARITY = 3 };
+
 /* Types of messages, downstream and upstream, and completion codes. */
 enum {
     PROFILE = 0x01,
@@ -59,6 +62,7 @@ struct believed {
     struct reply owed[MOST_OWED];
     size_t owing;
     struct slot slots[1 + PORTS];
+    uint8_t profiles[LINGBARROW_PROFILES];
 };
 
 /* The station before the frame that is being written, and after it. */
@@ -88,8 +92,8 @@ struct kind {
 
 #define IN(state) (1u << (state))
 
-/* Those that leave a station in its state, two of which are named, and those that do not. */
-enum { RELATIVE, RELATIVE_TO_ALL };
+/* Those that leave a station in its state, four of which are named, and those that do not. */
+enum { RELATIVE, RELATIVE_TO_ALL, PLAIN_TO_ALL, PARITY_TO_ALL };
 enum { ASSIGNED, RANGED, DEACTIVATED, ALL_DEACTIVATED, DISABLED, ALL_DISABLED, ENABLED, ALL_ENABLED, MOVING };
 extern const struct kind staying[], moving[MOVING];
 extern const size_t stayings;
@@ -101,9 +105,11 @@ void all_wait(struct believed *s);
 /* What an SDU takes with its padding (9-1). */
 size_t payload_size(size_t size);
 
-/* A frame's parts in their order. `planned` says that the entry should have its record in the plan. */
+/* A frame's parts in their order. `planned` says that the entry should have its record in the plan, if its profile was received: PLAIN, where
+ * none is named. */
 void begin_frame(void);
 void put_entry(unsigned alloc, unsigned dbru, unsigned ploamu, unsigned start, unsigned grant, bool planned);
+void put_entry_on(unsigned profile, unsigned alloc, unsigned dbru, unsigned ploamu, unsigned start, unsigned grant, bool planned);
 void put_message(const struct kind *kind, bool genuine);
 void put_xgem(unsigned port, unsigned last, size_t size);
 void put_idle(void); /* up to the longest frame */

@@ -18,13 +18,14 @@ static unsigned onu_id(void)
     return (unsigned)(lent.state[LINGBARROW_AT_ONU_ID] << 8 | lent.state[LINGBARROW_AT_ONU_ID + 1]);
 }
 
-static void claim_state(unsigned state, uint32_t delay)
+static void claim_state(const struct believed *s)
 {
     const uint8_t *d = lent.state + LINGBARROW_AT_DELAY;
 
-    claim(lent.state[LINGBARROW_AT_STATE] == state, "the state");
-    claim(onu_id() == (state == O4 || state == O5 || state == O6 ? OWN : EVERYONE), "the ONU-ID");
-    claim(((uint32_t)d[0] << 24 | (uint32_t)d[1] << 16 | (uint32_t)d[2] << 8 | d[3]) == delay, "the delay");
+    claim(lent.state[LINGBARROW_AT_STATE] == s->state, "the state");
+    claim(onu_id() == (s->state == O4 || s->state == O5 || s->state == O6 ? OWN : EVERYONE), "the ONU-ID");
+    claim(((uint32_t)d[0] << 24 | (uint32_t)d[1] << 16 | (uint32_t)d[2] << 8 | d[3]) == s->delay, "the delay");
+    claim(!memcmp(lent.state + LINGBARROW_AT_PROFILES, s->profiles, sizeof s->profiles), "the profiles");
 }
 
 /* The frame that was written arrives, and a frame time passes. Where it is not read, or a timer ends with it, that is believed here. */
@@ -47,7 +48,7 @@ static void frame_arrives(const char *what, unsigned wanted)
         after.state = station.state == O4 ? O2_3 : O1;
         forget(&after);
     }
-    claim_state(after.state, after.delay);
+    claim_state(&after);
     station = after;
 }
 
@@ -60,7 +61,7 @@ static void frame_is_lost(const char *what)
     } else if (station.state == O5)
         station.state = O6;
     all_wait(&station);
-    claim_state(station.state, station.delay);
+    claim_state(&station);
 }
 
 static void empty(const char *what)
@@ -98,7 +99,7 @@ static void answered(const char *what)
     while (station.owing);
 }
 
-/* In O5 with everything held that there is to hold: Alloc-IDs, ports that don't wait, partials; in other states what they can have. */
+/* In O5 with everything held that there is to hold: profiles, Alloc-IDs, ports that don't wait, partials; in other states what they can have. */
 static void enter(unsigned state, bool keyed)
 {
     memset(&lent, 0, sizeof lent);
@@ -109,6 +110,8 @@ static void enter(unsigned state, bool keyed)
     if (state == O1)
         return;
     empty(NULL);
+    messages(NULL, 1, &staying[PLAIN_TO_ALL], true);
+    messages(NULL, 1, &staying[PARITY_TO_ALL], true);
     if (state == O2_3)
         return;
     if (state == O7) {
@@ -176,7 +179,9 @@ static void map(bool readable)
         put_entry(OWN, 0, 1, word, 9707, false);    /* 9,721 words */
         put_entry(OWN, 0, 1, 9720, 8, false);       /* no StartTime */
         put_entry(OWN, 1, 1, word, 0, false);       /* DBRu without a grant */
-        count += 16 + 8;
+        put_entry_on(UNHEARD, OWN, 0, 1, word, 8, false);
+        put_entry_on(PARITY, OWN, 0, 1, word, 9079, false); /* 9,093 words, and with parity 9,721 */
+        count += 16 + 10;
     }
     for (; count < MOST_ENTRIES; count++)       /* four are planned already */
         put_entry(count % 2 ? OWN : FOREIGN, 0, 1, count % 3 ? 9000 : CONTINUES, 8, false);
@@ -258,7 +263,7 @@ static void names(const char *what, unsigned wanted)
     call(WHY_DARK, what, wanted == LINGBARROW_DELINEATION_LOST ? LINGBARROW_DONE : wanted);
     claim(lent.name_counts[0] == count, "the count of names");
     for (size_t i = 0; i < sizeof lent.names; i++)
-        claim(i < count ? lent.names[i] <= LINGBARROW_NAME_SILENT : lent.names[i] == 0x77, "each name, and the list past them");
+        claim(i < count ? lent.names[i] <= LINGBARROW_NAME_PROFILE_NOT_RECEIVED : lent.names[i] == 0x77, "each name, and the list past them");
 }
 
 static void houses(void)
@@ -410,7 +415,7 @@ static void timers(void)
     end_frame();
     for (unsigned i = 1; i < (station.state == O4 ? 80000 : 800); i++)
         call(station.state == O4 ? FRAME : LOST, NULL, LINGBARROW_DONE);
-    claim_state(station.state, station.delay);
+    claim_state(&station);
     keep();
     timer_ends = true;
     if (station.state == O4)
@@ -458,6 +463,9 @@ static void states_refused(void)
         refused(taking[i], "a state that is too short", LINGBARROW_BUFFER_TOO_SHORT);
         lent.state[LINGBARROW_AT_VERSION]++;
         refused(taking[i], "a state of another version", LINGBARROW_STATE_OUT_OF_RANGE);
+        back();
+        lent.state[LINGBARROW_AT_PROFILES] = LINGBARROW_PROFILE_ON + 1;
+        refused(taking[i], "a profile that is none", LINGBARROW_STATE_OUT_OF_RANGE);
         back();
         lent.state[LINGBARROW_AT_STATE] = 3;
         refused(taking[i], "octets that are no state's", LINGBARROW_STATE_OUT_OF_RANGE);
@@ -545,6 +553,8 @@ static void host_calls(void)
 
 static void power_ons(void)
 {
+    static const struct believed first = {.state = O1};
+
     lengths = whole;
     lengths.state--;
     refused(POWER_ON, "a state that is too short", LINGBARROW_BUFFER_TOO_SHORT);
@@ -553,7 +563,7 @@ static void power_ons(void)
     lengths.registration--;
     refused(POWER_ON, "a Registration ID that is too short", LINGBARROW_BUFFER_TOO_SHORT);
     call(POWER_ON, "done", LINGBARROW_DONE);
-    claim_state(O1, 0);
+    claim_state(&first);
 }
 
 static void written(unsigned which, const char *what)

@@ -14,19 +14,22 @@ fn ploam(front: &[u8], integrity: [u8; 8]) -> [u8; message::BYTES] {
 fn main() -> Result<(), Error> {
     let mut station = Station::power_on(SERIAL, [0; 36]);
     let mut buffers = Buffers::new(1024);
-    let mut frame = [0; 100];
+    let mut frame = [0; 148];
 
     // An empty frame: O1 to O2-3.
     write_hlend(0, 0, &mut frame)?;
     station.arriving(&frame[..4]).receive(0, &mut buffers)?;
     println!("{:?}", station.activation());
 
-    // Assign_ONU-ID 5, then Ranging_Time of 1,000 bit times: both act in one frame, O2-3 to O4 to O5.
+    // Assign_ONU-ID 5, Ranging_Time of 1,000 bit times, then Profile 0 without parity: all act in one frame, O2-3 to O4 to O5, and
+    // nothing is planned on a profile before it was received.
     let assign = ploam(b"\x03\xff\x03\x01\x00\x05LBRW\x00\x00\x00\x01", [0xf0, 0x66, 0x17, 0x51, 0x26, 0xb0, 0x04, 0xa1]);
     let ranging = ploam(&[0, 5, 4, 2, 1, 0, 0, 3, 0xe8], [0xd2, 0xc5, 0xec, 0x7e, 0x42, 0x93, 0x6a, 0xc3]);
-    write_hlend(0, 2, &mut frame)?;
+    let profile = ploam(&[3, 0xff, 1, 3, 0x10, 0], [0xb1, 0x23, 0x6c, 0x8e, 0x57, 0x58, 0xd1, 0xa6]);
+    write_hlend(0, 3, &mut frame)?;
     frame[4..52].copy_from_slice(&assign);
-    frame[52..].copy_from_slice(&ranging);
+    frame[52..100].copy_from_slice(&ranging);
+    frame[100..].copy_from_slice(&profile);
     station.arriving(&frame).receive(0, &mut buffers)?;
     println!("{station:?}");
     let onu = station.onu_id().expect("held in O5");

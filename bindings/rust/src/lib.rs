@@ -62,7 +62,7 @@ mod raw;
 /// Bytes of a state.
 pub const STATE_BYTES: usize = at::CARRIED + 2;
 /// The version of a state's form, its first byte: bytes of another version are no state's.
-pub const STATE_VERSION: u8 = 8;
+pub const STATE_VERSION: u8 = 9;
 /// Bytes of port memory: 17 slots of 2,048.
 pub const MEMORY_BYTES: usize = 34_816;
 /// Bytes of a saved station: its state, then its port memory.
@@ -81,6 +81,8 @@ pub const DELAY_MOST: u32 = 119_439;
 pub const ADDED_ALLOCS: usize = 16;
 /// At most so many answers are owed.
 pub const MOST_OWED: usize = 8;
+/// Burst profiles: always so many, received or not.
+pub const PROFILES: usize = 4;
 /// At most so many added ports are held.
 pub const ADDED_PORTS: usize = 16;
 /// Slots of port memory: of the management port, and of each added port.
@@ -104,7 +106,8 @@ pub mod at {
     pub const KEY: usize = KEY_HELD + 1;
     pub const OWED_COUNT: usize = KEY + 16;
     pub const OWED: usize = OWED_COUNT + 1;
-    pub const PORT_IDS: usize = OWED + 2 * MOST_OWED;
+    pub const PROFILES: usize = OWED + 2 * MOST_OWED;
+    pub const PORT_IDS: usize = PROFILES + super::PROFILES;
     pub const PARTIALS: usize = PORT_IDS + 2 * ADDED_PORTS;
     pub const WAITING: usize = PARTIALS + 2 * SLOTS;
     pub const CARRIED: usize = WAITING + SLOTS;
@@ -135,6 +138,7 @@ pub mod stack {
     pub const GIVE_KEY: usize = 1_584;
     pub const STRETCH: usize = 1_120;
     pub const STRETCHES: usize = 1_136;
+    pub const WHY_DARK: usize = 1_248;
     pub const WRITE_HLEND: usize = 160;
     pub const WRITE_ALLOCATION: usize = 192;
     pub const WRITE_XGEM_FRAME: usize = 208;
@@ -290,6 +294,17 @@ pub enum Owed {
     Acknowledgement { seq_no: u8, completion: Completion },
 }
 
+/// What is known of a burst profile.
+#[derive(Clone, Copy, PartialEq, Eq, Debug, Hash)]
+pub enum Profile {
+    /// Nothing is planned on it.
+    NotReceived,
+    /// Bursts on it carry no parity.
+    Off,
+    /// Bursts on it carry parity, 4 words for each begun 58, which the plan has counted.
+    On,
+}
+
 /// A port that is the station's.
 #[derive(Clone, Copy, PartialEq, Eq, Debug, Hash)]
 pub struct Port {
@@ -443,6 +458,16 @@ impl Station {
         })
     }
 
+    /// The burst profiles, by their index: received by Profile messages since the station entered O2-3.
+    pub fn profiles(&self) -> [Profile; PROFILES] {
+        self.octets(at::PROFILES).map(|number: u8| match number {
+            0 => Profile::NotReceived,
+            1 => Profile::Off,
+            // A state in range has one of these three.
+            _ => Profile::On,
+        })
+    }
+
     /// The management port, while an ONU-ID is held, and the added ports, by their slots.
     pub fn ports(&self) -> impl Iterator<Item = Port> + '_ {
         (0..SLOTS).filter_map(|slot| {
@@ -560,7 +585,8 @@ impl<'f> Arriving<'_, 'f> {
     }
 
     /// The frame acts: its plan, replies and deliveries go to the buffers, and the station to its next state. `random_delay` is what the
-    /// caller drew for a burst in O2-3, in bit times of 2.48832 Gbit/s; the engine writes it into Serial_Number_ONU.
+    /// caller drew for a burst in O2-3, in bit times of 2.48832 Gbit/s; the engine writes it into Serial_Number_ONU. Nothing is planned
+    /// on a burst profile that no Profile message of an earlier frame gave: [`Station::profiles`].
     ///
     /// After [`Error::FrameLengthUnfit`] and [`Error::BufferTooShort`] (a frame longer than the buffers are for) nothing has
     /// changed. After [`Error::HlendUnreadable`] and [`Error::HeaderTooLong`] a frame time has passed. Lost delineation is no error:
@@ -601,7 +627,9 @@ pub enum Name {
     ContinuingNothing = 5,
     /// Ours and continuing, straight behind the sixteen of a burst.
     Seventeenth = 6,
-    /// Of a burst of more than 9,720 words.
+    /// Of a burst whose head's profile no Profile message gave.
+    ProfileNotReceived = 11,
+    /// Of a burst of more than 9,720 words, parity counted.
     TooLong = 7,
     /// Of a burst that starts before the last planned one has ended.
     Overlapping = 8,
@@ -629,8 +657,9 @@ impl Name {
             7 => Name::TooLong,
             8 => Name::Overlapping,
             9 => Name::AfterTheFourth,
-            // The proved library names 0 to 10 and nothing else.
-            _ => Name::Silent,
+            10 => Name::Silent,
+            // The proved library names 0 to 11 and nothing else.
+            _ => Name::ProfileNotReceived,
         }
     }
 }
@@ -645,6 +674,7 @@ impl std::fmt::Display for Name {
             Name::Foreign => "foreign",
             Name::ContinuingNothing => "continuing nothing",
             Name::Seventeenth => "seventeenth",
+            Name::ProfileNotReceived => "profile not received",
             Name::TooLong => "too long",
             Name::Overlapping => "overlapping",
             Name::AfterTheFourth => "after the fourth",

@@ -1,7 +1,7 @@
 //! The wrappers over whole runs: the bench run's sample, line for line, and what the types are for.
 use lingbarrow::{
     at, message, places, write_allocation, write_hlend, write_xgem_frame, Activation, AllocId, Allocation, Arriving, Buffers, Completion, Error, Name, OnuId, Owed,
-    Port, PortId, Station, MEMORY_BYTES, NAMES, SAVED_BYTES, STATE_VERSION,
+    Port, PortId, Profile, Station, MEMORY_BYTES, NAMES, SAVED_BYTES, STATE_VERSION,
 };
 
 const SERIAL: [u8; 8] = *b"LBRW\x00\x00\x00\x01";
@@ -20,15 +20,17 @@ fn ploam(front: &[u8], integrity: [u8; 8]) -> [u8; message::BYTES] {
     m
 }
 
-// In O5 with ONU-ID 5 and an equalization delay of 1,000, by the messages of the example.
+// In O5 with ONU-ID 5, an equalization delay of 1,000 and profile 0 without parity, by the messages of the example; and profile 1 with parity.
 fn operating(buffers: &mut Buffers) -> Station {
     let mut station = Station::power_on(SERIAL, REGISTRATION);
     let mut frame = vec![0; 4];
     write_hlend(0, 0, &mut frame).unwrap();
     receive(station.arriving(&frame), buffers);
-    write_hlend(0, 2, &mut frame).unwrap();
+    write_hlend(0, 4, &mut frame).unwrap();
     frame.extend(ploam(b"\x03\xff\x03\x01\x00\x05LBRW\x00\x00\x00\x01", [0xf0, 0x66, 0x17, 0x51, 0x26, 0xb0, 0x04, 0xa1]));
     frame.extend(ploam(&[0, 5, 4, 2, 1, 0, 0, 3, 0xe8], [0xd2, 0xc5, 0xec, 0x7e, 0x42, 0x93, 0x6a, 0xc3]));
+    frame.extend(ploam(&[3, 0xff, 1, 3, 0x10, 0], [0xb1, 0x23, 0x6c, 0x8e, 0x57, 0x58, 0xd1, 0xa6]));
+    frame.extend(ploam(&[3, 0xff, 1, 3, 0x11, 1], [0x16, 0x4e, 0xce, 0x26, 0xe2, 0x28, 0xdc, 0xd2]));
     receive(station.arriving(&frame), buffers);
     assert_eq!(station.activation(), Activation::Operation);
     station
@@ -85,6 +87,8 @@ fn every_structure_of_a_map_has_its_name() {
         (grant(5, 110, 10), Name::Overlapping),
         (grant(5, 9720, 10), Name::StartTimeUnfit),
         (grant(5, 200, 9719), Name::TooLong),
+        (Allocation { profile: 2, ..grant(5, 200, 9719) }, Name::ProfileNotReceived),
+        (Allocation { profile: 1, ..grant(5, 200, 9091) }, Name::TooLong),
         (Allocation { dbru: true, ..grant(5, 200, 0) }, Name::DbruWithoutRoom),
         (grant(5, 200, 0), Name::Planned),
     ];
@@ -112,10 +116,12 @@ fn what_a_station_holds() {
     let mut buffers = Buffers::new(1024);
     let mut station = Station::power_on(SERIAL, REGISTRATION);
     assert_eq!((station.activation(), station.onu_id(), station.ports().count()), (Activation::Initial, None, 0));
+    assert_eq!(station.profiles(), [Profile::NotReceived; 4]);
     assert_eq!(station.give_key(&KEY), Err(Error::KeyRefused));
     station = operating(&mut buffers);
     assert_eq!((station.serial_number(), station.onu_id(), station.equalization_delay()), (SERIAL, Some(OnuId(5)), 1000));
     assert_eq!(station.owed().collect::<Vec<_>>(), [Owed::Acknowledgement { seq_no: 2, completion: Completion::Ok }]);
+    assert_eq!(station.profiles(), [Profile::Off, Profile::On, Profile::NotReceived, Profile::NotReceived]);
     assert!(!station.key_held());
     station.give_key(&KEY).unwrap();
     assert!(station.key_held());
@@ -161,8 +167,8 @@ fn what_is_no_saved_station_is_refused() {
     assert_eq!(Station::restore(&saved[1..]), Err(Error::StateOutOfRange));
     assert_eq!(Station::restore(&[&saved[..], &[0]].concat()), Err(Error::StateOutOfRange));
     // an older library's first octet was the state's number
-    let versions = [0, 1, 2, 4, 5, 6, 7, STATE_VERSION + 1].map(|version| (at::VERSION, version));
-    for (at, octet) in [(at::STATE, 3), (at::ALLOC_COUNT, 17), (at::KEY_HELD, 2), (at::OWED, 3)].into_iter().chain(versions) {
+    let versions = [0, 1, 2, 4, 5, 6, 7, STATE_VERSION - 1, STATE_VERSION + 1].map(|version| (at::VERSION, version));
+    for (at, octet) in [(at::STATE, 3), (at::ALLOC_COUNT, 17), (at::KEY_HELD, 2), (at::OWED, 3), (at::PROFILES, 3)].into_iter().chain(versions) {
         let mut other = saved.clone();
         other[at] = octet;
         assert_eq!(Station::restore(&other), Err(Error::StateOutOfRange), "octet {at}");

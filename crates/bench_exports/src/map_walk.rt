@@ -1,13 +1,28 @@
-// The walk over a bandwidth map, for a station in O5 with ONU-ID 5 and sixteen added Alloc-IDs.
+// The walk over a bandwidth map, for a station in O5 with ONU-ID 5, sixteen added Alloc-IDs, and three profiles without parity and one with.
 ghost use mathlib.Core.Path.{_≡_};
 ghost use Rattle.bwmap.specs.Plan.{planOf};
-ghost use Rattle.bench_exports.specs.Maps.{benchOwn, recordsOf};
+ghost use Rattle.bench_exports.specs.Maps.{benchProfiles, benchOwn, recordsOf};
 use bwmap::Planning;
 use entries::Own;
 use ids::AllocId;
 use ids::OnuId;
 use link::Allocs;
+use link::Parity;
+use link::Profile;
+use link::Profiles;
 use station::Activation;
+
+fn bench_profiles() -> Profiles
+    ensures { λ r. ⌜ r ≡ benchProfiles ⌝ }
+{
+    let plain = Profile {
+        parity: Parity::Off,
+    };
+    let with_parity = Profile { parity: Parity::On };
+    Profiles {
+        held: [plain, plain, plain, with_parity],
+    }
+}
 
 fn bench_own() -> Own
     ensures { λ r. ⌜ r ≡ benchOwn ⌝ }
@@ -33,10 +48,12 @@ fn bench_own() -> Own
         ],
         count: 16,
     };
+    let profiles = bench_profiles();
     Own {
         activation: Activation::Operation,
         onu: OnuId(5),
         allocs: allocs,
+        profiles: profiles,
     }
 }
 

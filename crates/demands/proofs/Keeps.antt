@@ -1,6 +1,5 @@
 -- This engine keeps the paper's other promises.
 -- Assumes nothing.
-use Rattle.invariants.proofs.Forgotten.{unidentified-forgotten, idle-forgotten}
 use Rattle.engine.proofs.Isolation.{frames-isolated, places-isolated}
 use Rattle.engine.proofs.Replies.{frame-replies-kept}
 use Rattle.demands.specs.Engine.{lingbarrow}
@@ -26,12 +25,7 @@ pub never-one : NeverOutOfRange lingbarrow
 never-one = never-out-of-range
 
 pub forgets : Forgets lingbarrow
-forgets =
-    record {
-      idle = λ serial registration memory calls. idle-forgotten (runOf lingbarrow serial registration memory calls .station) (always-forgotten serial registration memory calls);
-      unidentified = λ serial registration memory calls.
-          unidentified-forgotten (runOf lingbarrow serial registration memory calls .station) (always-forgotten serial registration memory calls);
-    }
+forgets = always-forgotten
 
 pub true-stretches : TrueStretches lingbarrow
 true-stretches serial registration memory calls arrival b k =

@@ -17,7 +17,7 @@ use Rattle.ploam.specs.Layout.{messageOctets}
 use Rattle.station.specs.declared.Station.{Station}
 use Rattle.answers.specs.Answers.{answerNumber}
 use Rattle.station.specs.Limits.{registrationOctets}
-use Rattle.station.specs.States.{holdsIdentity, silent, o23}
+use Rattle.station.specs.States.{holdsIdentity, silent}
 use Rattle.link.specs.Link.{nothing, withProfiles}
 use Rattle.link.specs.Profiles.{noProfiles}
 use Rattle.validity.specs.Ranges.{inRange}
@@ -36,7 +36,6 @@ use Rattle.engine.specs.Alike.{AlikeFrames}
 use Rattle.engine.specs.Naming.{NamesLeft}
 use Rattle.engine.specs.Counts.{Received, receiving, xgemFrames}
 use Rattle.engine.specs.declared.stretching.StretchPlace.{StretchPlace}
-use Rattle.ledger.specs.Messages.{inState}
 use Rattle.demands.specs.Engine.{Engine}
 use Rattle.demands.specs.Runs.{Call, Buffers, lend, isDone, runOf}
 use Rattle.demands.specs.Demand3.{sendings}
@@ -163,11 +162,10 @@ PlannedNames E =
 abbrev pub NeverOutOfRange : Engine → Type 0
 NeverOutOfRange E = (serial registration memory : List ℕ) (calls : List Call) → inRange (runOf E serial registration memory calls .station) ≡ true
 
--- "Entering O1, O2-3 or O7 forgets ONU-ID, Alloc-IDs, delay, key, owed answers", and "Profiles are forgotten wherever the ONU-ID is"
-pub record Forgets (E : Engine) : Type 0 where
-  -- while it stands in O1 or O7 nothing of these is held, not an octet of a key
-  pub idle : (serial registration memory : List ℕ) (calls : List Call)
-      → let s = runOf E serial registration memory calls .station in holdsIdentity (s .activation) ≡ false → inState o23 s ≡ false → s .link ≡ nothing
-  -- in O2-3, where a broadcast gives profiles, nothing but these
-  pub unidentified : (serial registration memory : List ℕ) (calls : List Call)
-      → let s = runOf E serial registration memory calls .station in holdsIdentity (s .activation) ≡ false → withProfiles (s .link) noProfiles ≡ nothing
+-- "Entering O1, O2-3 or O7 forgets ONU-ID, Alloc-IDs, delay, key, owed answers": while it stands there nothing of these is held, not an
+-- octet of a key. "Profiles are forgotten wherever the ONU-ID is": in O1 and O7 none is held, in O2-3 those alone that it has heard there
+abbrev pub Forgets : Engine → Type 0
+Forgets E =
+    (serial registration memory : List ℕ) (calls : List Call)
+    → let s = runOf E serial registration memory calls .station in holdsIdentity (s .activation) ≡ false
+    → (s .link ≡ withProfiles nothing (s .link .profiles)) × (silent (s .activation) ≡ true → s .link .profiles ≡ noProfiles)

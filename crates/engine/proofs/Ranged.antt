@@ -44,6 +44,7 @@ carried-sound s n h f =
     record {
       allocs-long = f .allocs-long;
       answers-long = f .answers-long;
+      profiles-long = f .profiles-long;
       ports-long = f .ports-long;
       lengths-long = f .lengths-long;
       waiting-long = f .waiting-long;

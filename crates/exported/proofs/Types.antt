@@ -77,6 +77,7 @@ typed s k w =
         allocs = k .allocs-long;
         key = w .key-long;
         answers = k .answers-long;
+        profiles = k .profiles-long;
         ports = k .ports-long;
         lengths = k .lengths-long;
         waiting = k .waiting-long;

@@ -32,13 +32,14 @@ use Rattle.ploam.specs.declared.Completion.the-variants.{Ok, ProcessingError, P
 use Rattle.ids.specs.Ids.{assignableOnu, assignableAlloc}
 use Rattle.ids.specs.Places.{isHeld}
 use Rattle.link.specs.declared.Response.the-variants.{Registration}
-use Rattle.ploam.specs.Reading.{serialAt, adjustmentOf, switchOf, changeOf, onuIn, allocIn, serialFrom, contentAs, contentOf, messageOf, received}
+use Rattle.ploam.specs.Reading.{serialAt, adjustmentOf, switchOf, changeOf, onuIn, allocIn, serialFrom, profileIndex, fecOn, contentAs, contentOf, messageOf, received}
 use Rattle.integrity.specs.Integrity.{installedKey, genuine}
 use Rattle.link.specs.declared.Link.{Link}
 use Rattle.link.specs.declared.Allocs.{Allocs}
 use Rattle.link.specs.Limits.{addedAllocs, mostOwed, keyOctets}
 use Rattle.link.specs.Lists.{closeUp}
-use Rattle.link.specs.Link.{noAlloc, nothing, withOnu, withAllocs, withDelay, withKey, withOwed, installed, allocPlace, addAlloc, removeAt, removeAlloc, owe, paid}
+use Rattle.link.specs.Profiles.{setProfile}
+use Rattle.link.specs.Link.{noAlloc, nothing, withOnu, withAllocs, withDelay, withKey, withOwed, withProfiles, installed, allocPlace, addAlloc, removeAt, removeAlloc, owe, paid}
 use Rattle.station.specs.declared.Activation.{Activation}
 use Rattle.station.specs.declared.Activation.the-variants.{Initial, SerialNumber, Ranging, Operation, Intermittent, EmergencyStop}
 use Rattle.station.specs.declared.Station.{Station}
@@ -50,14 +51,14 @@ use Rattle.station.specs.States.{stateNumber, o4, o5, o7, o23, holdsIdentity, i
 use Rattle.station.specs.Station.{powerOn, enter, withActivation}
 use Rattle.timing.specs.Timing.{countTo1, countTo2, endFrom, frameEnd, silence, lostFrom, lostState, lostTime, unreadFrom, unreadState, unreadTime}
 use Rattle.effects.specs.declared.Change.{Change}
-use Rattle.effects.specs.declared.Change.the-variants.{Keep, Identify, Range, Delay, AddAlloc, RemoveAlloc, Enter}
+use Rattle.effects.specs.declared.Change.the-variants.{Keep, Identify, Range, Delay, AddAlloc, RemoveAlloc, SetProfile, Enter}
 use Rattle.effects.specs.declared.Debt.{Debt}
 use Rattle.effects.specs.declared.Debt.the-variants.{Free, Owes}
 use Rattle.effects.specs.declared.Effect.{Effect}
 use Rattle.effects.specs.Effects.{ignored, does, owes, answers}
 use Rattle.effects.specs.Changes.{identify, range, setDelay, applyChange, applyDebt, applied}
 use Rattle.decisions.specs.Ranging.{mostDelay, absolute, moved, answered, unanswered, rangingTime}
-use Rattle.decisions.specs.Decisions.{sameSerial, assignOnuId, allocChange, assignAllocId, requestRegistration, deactivate, switchOff, switchOn, switched, disable, unknownType, byContent, isOurs, isBroadcast, effectOf, room, fitting}
+use Rattle.decisions.specs.Decisions.{sameSerial, profile, assignOnuId, allocChange, assignAllocId, requestRegistration, deactivate, switchOff, switchOn, switched, disable, unknownType, byContent, isOurs, isBroadcast, effectOf, room, fitting}
 use Rattle.decisions.specs.Acts.{act}
 use Rattle.messages.specs.Receiving.{acting, receive, messagesFrom, messagesIn, receiveAll}
 use Rattle.replies.specs.Replying.{afterIn, afterReply}
@@ -133,7 +134,7 @@ octets-take (suc n) (x ∷ l) o = go (octets-take n l (λ j. o (suc j)))
 -- ---- what a message asks for is as wide as its octets
 
 abbrev Content-wide : Content → Type 0
-Content-wide Profile = Unit {0}
+Content-wide (Profile index parity) = Unit {0}
 Content-wide (AssignOnuId onu serial) = Unit {0}
 Content-wide (RangingTime way amount) = amount < 256 ^ delayWidth
 Content-wide DeactivateOnuId = Unit {0}
@@ -162,7 +163,7 @@ content-wide m o =
     let c3 = cond (eqb type layout.deactivateOnuId) DeactivateOnuId c4 in
     let c2 = cond (eqb type layout.rangingTime) (RangingTime (adjustmentOf (octet m 5)) (number32 m 6)) c3 in
     let c1 = cond (eqb type layout.assignOnuId) (AssignOnuId (onuIn m) (serialFrom m 7)) c2 in
-    either (eqb type layout.profile) Profile c1 tt
+    either (eqb type layout.profile) (Profile (profileIndex (octet m 5)) (fecOn (octet m 6))) c1 tt
     (either (eqb type layout.assignOnuId) (AssignOnuId (onuIn m) (serialFrom m 7)) c2 tt
     (either (eqb type layout.rangingTime) (RangingTime (adjustmentOf (octet m 5)) (number32 m 6)) c3 amount
     (either (eqb type layout.deactivateOnuId) DeactivateOnuId c4 tt
@@ -180,6 +181,7 @@ Change-wide (Range delay) = delay < 256 ^ delayWidth
 Change-wide (Delay delay) = delay < 256 ^ delayWidth
 Change-wide (AddAlloc id) = IsId id
 Change-wide (RemoveAlloc id) = Unit {0}
+Change-wide (SetProfile index parity) = Unit {0}
 Change-wide (Enter a) = Unit {0}
 
 choose : (b : Bool) (x y : Effect) → Change-wide (x .change) → Change-wide (y .change) → Change-wide (cond b x y .change)
@@ -247,8 +249,10 @@ switched-wide a own EnableAll = on-wide a
 switched-wide a own OtherSwitch = tt
 
 effect-wide : (s : Station) (broadcast : Bool) (seq : ℕ) (c : Content) → s .link .delay < 256 ^ delayWidth → Content-wide c → Change-wide (byContent s broadcast seq c .change)
-unfolding assignOnuId assignAllocId requestRegistration deactivate disable unknownType
-effect-wide s broadcast seq Profile d p = tt
+unfolding profile assignOnuId assignAllocId requestRegistration deactivate disable unknownType
+effect-wide s true seq (Profile index parity) d p =
+    let state = stateNumber (s .activation) in choose (eqb state o23 || (eqb state o4 || eqb state o5)) (does (SetProfile index parity)) ignored tt tt
+effect-wide s false seq (Profile index parity) d p = choose (eqb (stateNumber (s .activation)) o5) (answers (SetProfile index parity) Ok seq) ignored tt tt
 effect-wide s broadcast seq (AssignOnuId onu serial) d p =
     choose (broadcast && (eqb (stateNumber (s .activation)) o23 && (sameSerial (serialAt (s .serial) 0) serial && assignableOnu onu))) (does (Identify onu)) ignored tt tt
 effect-wide s broadcast seq (RangingTime way amount) d p = ranging-wide (stateNumber (s .activation)) broadcast (s .link .delay) seq way amount d p
@@ -318,6 +322,7 @@ change-widths s (Range delay) w p = with-delay (s .serial) (s .registration) (s 
 change-widths s (Delay delay) w p = with-delay (s .serial) (s .registration) (s .link) w delay p
 change-widths s (AddAlloc id) w p = with-allocs (s .serial) (s .registration) (s .link) w (addAlloc (s .link .allocs) id) (added-ids (s .link .allocs) id p (w .alloc-ids))
 change-widths s (RemoveAlloc id) w p = with-allocs (s .serial) (s .registration) (s .link) w (removeAlloc (s .link .allocs) id) (removed-ids (s .link .allocs) (allocPlace (s .link .allocs) id) (w .alloc-ids))
+change-widths s (SetProfile index parity) w p = same-but (s .serial) (s .registration) (s .link) (withProfiles (s .link) (setProfile (s .link .profiles) index parity)) w refl refl refl
 change-widths s (Enter a) w p = of-nothing (s .serial) (s .registration) (s .link) w
 
 debt-widths : (s : Station) (d : Debt) → Widths s → Widths (applyDebt s d)

@@ -1,12 +1,12 @@
 -- A key no longer held is gone: in O1, O2-3 and O7 a station holds nothing that a head end gave it, not an octet of a key,
--- no ONU-ID, Alloc-ID, delay or owed answer; in O1 and O7 no profile either, which a broadcast gives in O2-3. It is so from power-on, and
+-- no ONU-ID, Alloc-ID, delay or owed answer, and no profile but those that it has heard in O2-3 itself. It is so from power-on, and
 -- every call keeps it so.
 -- Assumes nothing.
 use Prim.Native.Nat.{ℕ, _-_}
-use mathlib.Core.Path.{_≡_, refl, ap}
+use mathlib.Core.Path.{_≡_, _∙_, refl, sym, ap}
 use mathlib.Core.List.{List, [], _∷_}
 use mathlib.Core.Bool.{Bool, true, false, not, cond, true≢false, false≢true}
-use lib.Dec.{eqb, leb}
+use lib.Dec.{leb}
 use lib.ListN.{replicate}
 use Rattle.ids.specs.declared.PortId.{PortId}
 use Rattle.ploam.specs.declared.Message.{Message}
@@ -16,11 +16,10 @@ use Rattle.station.specs.declared.Activation.{Activation}
 use Rattle.station.specs.declared.Activation.the-variants.{Initial, SerialNumber, Ranging, Operation, Intermittent, EmergencyStop}
 use Rattle.station.specs.declared.Station.{Station}
 use Rattle.link.specs.declared.Link.{Link}
-use Rattle.link.specs.declared.Profiles.{Profiles}
-use Rattle.link.specs.Profiles.{noProfiles, setProfile}
 use Rattle.answers.specs.declared.Answer.{Answer}
-use Rattle.station.specs.States.{holdsIdentity, stateNumber, o23}
+use Rattle.station.specs.States.{holdsIdentity, silent}
 use Rattle.link.specs.Limits.{keyOctets}
+use Rattle.link.specs.Profiles.{noProfiles, setProfile}
 use Rattle.link.specs.Link.{nothing, withDelay, withAllocs, withKey, withOwed, withProfiles, addAlloc, removeAlloc, owe, paid, installed}
 use Rattle.station.specs.Station.{powerOn, enter, withActivation, withLink, withPorts}
 use Rattle.timing.specs.Timing.{countTo1, countTo2, endFrom, frameEnd, silence, lostFrom, lostState, lostTime, unreadFrom, unreadState, unreadTime}
@@ -41,62 +40,27 @@ use Rattle.host.specs.Host.{done, answerToAdd, answerToRemove, answerToKey, aft
 use Rattle.validity.specs.Ranges.{inRange}
 use Rattle.ports.specs.Ports.{addPort, removePort}
 use Rattle.answers.specs.declared.Answer.the-variants.{Done, StateOutOfRange, KeyRefused}
-use Rattle.invariants.proofs.Valid.{hears, steady, ValidChange, ValidDebt, Valid, decision-valid}
+use Rattle.invariants.proofs.Valid.{steady, ValidChange, ValidDebt, Valid, decision-valid}
 
 -- ---- the statement
 
-abbrev pub ForgottenIn : Activation → Link → Type 0
-ForgottenIn Initial l = l ≡ nothing
-ForgottenIn SerialNumber l = withProfiles l noProfiles ≡ nothing
-ForgottenIn (Ranging left) l = Unit {0}
-ForgottenIn Operation l = Unit {0}
-ForgottenIn (Intermittent left) l = Unit {0}
-ForgottenIn EmergencyStop l = l ≡ nothing
-
+-- in O1 and O7, where nothing is heard, no profile either
 abbrev pub Forgotten : Station → Type 0
-Forgotten s = ForgottenIn (s .activation) (s .link)
-
--- in O1, O2-3 and O7 all but the profiles
-pub unidentified-forgotten : (s : Station) → Forgotten s → holdsIdentity (s .activation) ≡ false → withProfiles (s .link) noProfiles ≡ nothing
-unidentified-forgotten s f h = go (s .activation) f h
-  where
-    go : (a : Activation) → ForgottenIn a (s .link) → holdsIdentity a ≡ false → withProfiles (s .link) noProfiles ≡ nothing
-    go Initial e h = rw e
-    go SerialNumber e h = e
-    go (Ranging left) e h = absurd (true≢false h)
-    go Operation e h = absurd (true≢false h)
-    go (Intermittent left) e h = absurd (true≢false h)
-    go EmergencyStop e h = rw e
-
--- in O1 and O7 all
-pub idle-forgotten
-    : (s : Station) → Forgotten s → holdsIdentity (s .activation) ≡ false → eqb (stateNumber (s .activation)) o23 ≡ false → s .link ≡ nothing
-idle-forgotten s f h k = go (s .activation) f h k
-  where
-    go : (a : Activation) → ForgottenIn a (s .link) → holdsIdentity a ≡ false → eqb (stateNumber a) o23 ≡ false → s .link ≡ nothing
-    go Initial e h k = e
-    go SerialNumber e h k = absurd (true≢false k)
-    go (Ranging left) e h k = absurd (true≢false h)
-    go Operation e h k = absurd (true≢false h)
-    go (Intermittent left) e h k = absurd (true≢false h)
-    go EmergencyStop e h k = e
+Forgotten s =
+    holdsIdentity (s .activation) ≡ false
+    → (s .link ≡ withProfiles nothing (s .link .profiles)) × (silent (s .activation) ≡ true → s .link .profiles ≡ noProfiles)
 
 -- not an octet of a key
 pub no-octet : (s : Station) → Forgotten s → holdsIdentity (s .activation) ≡ false → s .link .key .octets ≡ replicate keyOctets 0
-no-octet s f h = ap (λ (l : Link). l .key .octets) (unidentified-forgotten s f h)
+no-octet s f h = ap (λ (l : Link). l .key .octets) (f h .0)
 
 -- ---- it is so from power-on, and on entering
 
 pub power-on-forgotten : (serial registration : List ℕ) → Forgotten (powerOn serial registration)
-power-on-forgotten serial registration = refl
+power-on-forgotten serial registration h = (refl, λ k. refl)
 
 pub enter-forgotten : (s : Station) (a : Activation) → Forgotten (enter s a)
-enter-forgotten s Initial = refl
-enter-forgotten s SerialNumber = refl
-enter-forgotten s (Ranging left) = tt
-enter-forgotten s Operation = tt
-enter-forgotten s (Intermittent left) = tt
-enter-forgotten s EmergencyStop = refl
+enter-forgotten s a h = (refl, λ k. refl)
 
 -- ---- frame times
 
@@ -106,7 +70,7 @@ count1 s left e f = go (leb left 1)
   where
     go : (b : Bool) → Forgotten (cond b (enter s SerialNumber) (withActivation s (Ranging (left - 1))))
     go true = enter-forgotten s SerialNumber
-    go false = tt
+    go false = λ h. absurd (true≢false h)
 
 count2 : (s : Station) (left : ℕ) → Forgotten s → Forgotten (countTo2 s left)
 unfolding countTo2
@@ -114,7 +78,7 @@ count2 s left f = go (leb left 1)
   where
     go : (b : Bool) → Forgotten (cond b (enter s Initial) (withActivation s (Intermittent (left - 1))))
     go true = enter-forgotten s Initial
-    go false = tt
+    go false = λ h. absurd (true≢false h)
 
 end-from : (a : Activation) (s : Station) (b : Bool) → s .activation ≡ a → Forgotten s → Forgotten (endFrom a s b)
 end-from Initial s b e f = enter-forgotten s SerialNumber
@@ -122,7 +86,7 @@ end-from SerialNumber s b e f = f
 end-from (Ranging left) s true e f = count1 s left e f
 end-from (Ranging left) s false e f = f
 end-from Operation s b e f = f
-end-from (Intermittent left) s b e f = tt
+end-from (Intermittent left) s b e f = λ h. absurd (true≢false h)
 end-from EmergencyStop s b e f = f
 
 pub frame-end-forgotten : (s : Station) (b : Bool) → Forgotten s → Forgotten (frameEnd s b)
@@ -133,7 +97,7 @@ lost-from : (a : Activation) (s : Station) → s .activation ≡ a → Forgotten
 lost-from Initial s e f = f
 lost-from SerialNumber s e f = enter-forgotten s Initial
 lost-from (Ranging left) s e f = enter-forgotten s Initial
-lost-from Operation s e f = tt
+lost-from Operation s e f = λ h. absurd (true≢false h)
 lost-from (Intermittent left) s e f = count2 s left f
 lost-from EmergencyStop s e f = f
 
@@ -156,37 +120,23 @@ unread-forgotten s f = unread-from (s .activation) s refl f
 -- ---- messages
 
 identified : (s : Station) → holdsIdentity (s .activation) ≡ true → (l : Link) → Forgotten (withLink s l)
-identified s i l = go (s .activation) i
-  where
-    go : (a : Activation) → holdsIdentity a ≡ true → ForgottenIn a l
-    go Initial i = absurd (false≢true i)
-    go SerialNumber i = absurd (false≢true i)
-    go (Ranging left) i = tt
-    go Operation i = tt
-    go (Intermittent left) i = tt
-    go EmergencyStop i = absurd (false≢true i)
+identified s i l h = absurd (true≢false (sym i ∙ h))
 
--- where a Profile is taken, profiles may be held
-heard : (s : Station) → hears (s .activation) ≡ true → Forgotten s → (p : Profiles) → Forgotten (withLink s (withProfiles (s .link) p))
-heard s t f p = go (s .activation) t f
-  where
-    go : (a : Activation) → hears a ≡ true → ForgottenIn a (s .link) → ForgottenIn a (withProfiles (s .link) p)
-    go Initial t e = absurd (false≢true t)
-    go SerialNumber t e = e
-    go (Ranging left) t e = tt
-    go Operation t e = tt
-    go (Intermittent left) t e = tt
-    go EmergencyStop t e = absurd (false≢true t)
+profile-forgotten
+    : (s : Station) (index : ℕ) (parity : Bool) → silent (s .activation) ≡ false → Forgotten s
+    → Forgotten (withLink s (withProfiles (s .link) (setProfile (s .link .profiles) index parity)))
+profile-forgotten s index parity v f h =
+    (ap (λ (l : Link). withProfiles l (setProfile (s .link .profiles) index parity)) (f h .0), λ k. absurd (true≢false (sym k ∙ v)))
 
 change-forgotten : (s : Station) (c : Change) → ValidChange s c → Forgotten s → Forgotten (applyChange s c)
 unfolding identify range setDelay
 change-forgotten s Keep v f = f
-change-forgotten s (Identify onu) v f = tt
-change-forgotten s (Range delay) v f = tt
+change-forgotten s (Identify onu) v f = λ h. absurd (true≢false h)
+change-forgotten s (Range delay) v f = λ h. absurd (true≢false h)
 change-forgotten s (Delay delay) v f = identified s v (withDelay (s .link) delay)
 change-forgotten s (AddAlloc id) v f = identified s (v .0) (withAllocs (s .link) (addAlloc (s .link .allocs) id))
 change-forgotten s (RemoveAlloc id) v f = identified s v (withAllocs (s .link) (removeAlloc (s .link .allocs) id))
-change-forgotten s (SetProfile index parity) v f = heard s v f (setProfile (s .link .profiles) index parity)
+change-forgotten s (SetProfile index parity) v f = profile-forgotten s index parity v f
 change-forgotten s (Enter a) v f = enter-forgotten s a
 
 -- an answer is owed only where the change leaves an identity

@@ -9,7 +9,7 @@ use lib.Dec.{leb}
 use Rattle.ids.specs.Ids.{broadcastOnu}
 use Rattle.station.specs.declared.Activation.{Activation}
 use Rattle.station.specs.declared.Station.{Station}
-use Rattle.link.specs.Limits.{addedAllocs, mostOwed}
+use Rattle.link.specs.Limits.{addedAllocs, mostOwed, profiles}
 use Rattle.ports.specs.Limits.{addedPorts, slots}
 use Rattle.station.specs.Limits.{upstreamWords}
 use Rattle.station.specs.States.{holdsIdentity}
@@ -26,6 +26,7 @@ use Rattle.invariants.proofs.Slots.{all-wait}
 pub record Sound (s : Station) : Type 0 where
   pub allocs-long : length (s .link .allocs .ids) ≡ addedAllocs
   pub answers-long : length (s .link .owed .answers) ≡ mostOwed
+  pub profiles-long : length (s .link .profiles .held) ≡ profiles
   pub ports-long : length (s .ports .ids) ≡ addedPorts
   pub lengths-long : length (s .ports .lengths) ≡ slots
   pub waiting-long : length (s .ports .waiting) ≡ slots
@@ -45,10 +46,10 @@ sound-in-range s f = rw (f .identity, f .allocs, f .ports, f .partials, f .carri
 -- a state in range, whose arrays have their lengths, is sound: the bounds that callers need
 pub in-range-sound
     : (s : Station) → length (s .link .allocs .ids) ≡ addedAllocs → length (s .link .owed .answers) ≡ mostOwed
-    → length (s .ports .ids) ≡ addedPorts → length (s .ports .lengths) ≡ slots → length (s .ports .waiting) ≡ slots
+    → length (s .link .profiles .held) ≡ profiles → length (s .ports .ids) ≡ addedPorts → length (s .ports .lengths) ≡ slots → length (s .ports .waiting) ≡ slots
     → inRange s ≡ true → Sound s
 unfolding inRange
-in-range-sound s a b c d e h =
+in-range-sound s a b p c d e h =
     let x1 = both (identityFits (s .activation) (s .link .onu)) _ h in
     let x2 = both (allocsFit (s .link .allocs)) _ (x1 .1) in
     let x3 = both (portsFit (s .ports .ids)) _ (x2 .1) in
@@ -58,6 +59,7 @@ in-range-sound s a b c d e h =
     record {
       allocs-long = a;
       answers-long = b;
+      profiles-long = p;
       ports-long = c;
       lengths-long = d;
       waiting-long = e;
@@ -78,6 +80,7 @@ power-on-sound serial registration =
     record {
       allocs-long = refl;
       answers-long = refl;
+      profiles-long = refl;
       ports-long = refl;
       lengths-long = refl;
       waiting-long = refl;
@@ -103,6 +106,7 @@ enter-sound s a h t f =
     record {
       allocs-long = refl;
       answers-long = refl;
+      profiles-long = refl;
       ports-long = f .ports-long;
       lengths-long = refl;
       waiting-long = refl;
@@ -122,6 +126,7 @@ with-activation-sound s a i t f =
     record {
       allocs-long = f .allocs-long;
       answers-long = f .answers-long;
+      profiles-long = f .profiles-long;
       ports-long = f .ports-long;
       lengths-long = f .lengths-long;
       waiting-long = f .waiting-long;
@@ -140,6 +145,7 @@ silence-sound s f =
     record {
       allocs-long = f .allocs-long;
       answers-long = f .answers-long;
+      profiles-long = f .profiles-long;
       ports-long = f .ports-long;
       lengths-long = refl;
       waiting-long = refl;

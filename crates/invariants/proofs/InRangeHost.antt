@@ -38,6 +38,7 @@ with-ports-sound s p a b c t u f =
     record {
       allocs-long = f .allocs-long;
       answers-long = f .answers-long;
+      profiles-long = f .profiles-long;
       ports-long = a;
       lengths-long = b;
       waiting-long = c;
@@ -111,6 +112,7 @@ key-sound s octets f =
     record {
       allocs-long = f .allocs-long;
       answers-long = f .answers-long;
+      profiles-long = f .profiles-long;
       ports-long = f .ports-long;
       lengths-long = f .lengths-long;
       waiting-long = f .waiting-long;

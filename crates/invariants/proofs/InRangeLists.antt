@@ -39,6 +39,7 @@ with-allocs-sound s a l t f =
     record {
       allocs-long = l;
       answers-long = f .answers-long;
+      profiles-long = f .profiles-long;
       ports-long = f .ports-long;
       lengths-long = f .lengths-long;
       waiting-long = f .waiting-long;
@@ -58,6 +59,7 @@ with-owed-sound s q l t f =
     record {
       allocs-long = f .allocs-long;
       answers-long = l;
+      profiles-long = f .profiles-long;
       ports-long = f .ports-long;
       lengths-long = f .lengths-long;
       waiting-long = f .waiting-long;

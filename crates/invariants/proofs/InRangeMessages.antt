@@ -10,16 +10,15 @@ use Rattle.ids.specs.Ids.{assignableOnu}
 use Rattle.ploam.specs.declared.Message.{Message}
 use Rattle.ploam.specs.declared.Received.{Received}
 use Rattle.ploam.specs.declared.Received.the-variants.{Whole, Short}
-use Rattle.ploam.specs.Reading.{received}
+use Rattle.ploam.specs.Reading as reading
 use Rattle.integrity.specs.Integrity.{genuine, installedKey}
 use Rattle.station.specs.declared.Activation.{Activation}
 use Rattle.station.specs.declared.Activation.the-variants.{Initial, SerialNumber, Ranging, Operation, Intermittent, EmergencyStop}
 use Rattle.station.specs.declared.Station.{Station}
 use Rattle.station.specs.States.{holdsIdentity}
-use Rattle.link.specs.declared.Profiles.{Profiles}
-use Rattle.link.specs.Link.{allocPlace, addAlloc, removeAlloc, owe, paid, withProfiles}
-use Rattle.link.specs.Profiles.{setProfile}
 use Rattle.station.specs.Station.{withLink}
+use Rattle.link.specs.Link.{allocPlace, addAlloc, removeAlloc, owe, paid, withProfiles}
+use Rattle.link.specs.Profiles.{profileIndex, received, setProfile}
 use Rattle.validity.specs.Ranges.{identityFits}
 use Rattle.effects.specs.declared.Change.{Change}
 use Rattle.effects.specs.declared.Change.the-variants.{Keep, Identify, Range, Delay, AddAlloc, RemoveAlloc, SetProfile, Enter}
@@ -46,6 +45,7 @@ identify-sound s onu v f =
     record {
       allocs-long = f .allocs-long;
       answers-long = f .answers-long;
+      profiles-long = f .profiles-long;
       ports-long = f .ports-long;
       lengths-long = f .lengths-long;
       waiting-long = f .waiting-long;
@@ -64,6 +64,7 @@ range-sound s delay v f =
     record {
       allocs-long = f .allocs-long;
       answers-long = f .answers-long;
+      profiles-long = f .profiles-long;
       ports-long = f .ports-long;
       lengths-long = f .lengths-long;
       waiting-long = length-set (s .ports .waiting) 0 false ∙ f .waiting-long;
@@ -82,6 +83,7 @@ delay-sound s delay f =
     record {
       allocs-long = f .allocs-long;
       answers-long = f .answers-long;
+      profiles-long = f .profiles-long;
       ports-long = f .ports-long;
       lengths-long = f .lengths-long;
       waiting-long = f .waiting-long;
@@ -94,12 +96,13 @@ delay-sound s delay f =
       owed = f .owed;
     }
 
--- "Profiles have no range"
-profiles-sound : (s : Station) (p : Profiles) → Sound s → Sound (withLink s (withProfiles (s .link) p))
-profiles-sound s p f =
+profile-sound : (s : Station) (index : ℕ) (parity : Bool) → Sound s → Sound (withLink s (withProfiles (s .link) (setProfile (s .link .profiles) index parity)))
+unfolding setProfile
+profile-sound s index parity f =
     record {
       allocs-long = f .allocs-long;
       answers-long = f .answers-long;
+      profiles-long = length-set (s .link .profiles .held) (profileIndex index) (received parity) ∙ f .profiles-long;
       ports-long = f .ports-long;
       lengths-long = f .lengths-long;
       waiting-long = f .waiting-long;
@@ -123,7 +126,7 @@ change-sound s (AddAlloc id) v f =
 change-sound s (RemoveAlloc id) v f =
     let a = removed (s .link .allocs) (f .allocs-long) (f .allocs) id (allocPlace (s .link .allocs) id) refl in
     with-allocs-sound s (removeAlloc (s .link .allocs) id) (a .1) (a .0) f
-change-sound s (SetProfile index parity) v f = profiles-sound s (setProfile (s .link .profiles) index parity) f
+change-sound s (SetProfile index parity) v f = profile-sound s index parity f
 change-sound s (Enter a) v f = enter-sound s a (v .0) (v .1) f
 
 debt-sound : (s : Station) (d : Debt) → Sound s → Sound (applyDebt s d)
@@ -149,7 +152,7 @@ acting-sound s g Short f = f
 
 receive-sound : (s : Station) (m : List ℕ) → Sound s → Sound (receive s m)
 unfolding receive
-receive-sound s m f = acting-sound s (genuine (installedKey (s .link .key .held) (s .link .key .octets)) m) (received m) f
+receive-sound s m f = acting-sound s (genuine (installedKey (s .link .key .held) (s .link .key .octets)) m) (reading.received m) f
 
 pub messages-sound : (s : Station) (l : List (List ℕ)) → Sound s → Sound (receiveAll s l)
 messages-sound s [] f = f

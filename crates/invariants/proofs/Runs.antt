@@ -1,5 +1,5 @@
 -- Over any run of what can befall a station, from power-on: it is always in range, and in O1, O2-3 and O7 it always holds
--- nothing of what a head end gave it.
+-- nothing of what a head end gave it but the profiles that it has heard in O2-3.
 -- Assumes nothing.
 use Prim.Native.Nat.{ℕ}
 use mathlib.Core.Path.{_≡_}

@@ -1,4 +1,5 @@
--- What a message can do where: identities are assignable, and only a station that holds one is changed or owes an answer.
+-- What a message can do where: identities are assignable, only a station that holds one is changed or owes an answer, and profiles are
+-- heard where something is sent.
 -- Assumes nothing.
 use Prim.Native.Nat.{ℕ}
 use mathlib.Core.Path.{_≡_, _∙_, refl, sym, ap}
@@ -15,15 +16,15 @@ use Rattle.ploam.specs.declared.AllocChange.{AllocChange}
 use Rattle.ploam.specs.declared.AllocChange.the-variants.{Assign, Deallocate, OtherChange}
 use Rattle.ploam.specs.declared.Content.{Content}
 use Rattle.ploam.specs.declared.Content.the-variants.{Profile, AssignOnuId, RangingTime, DeactivateOnuId, DisableSerialNumber, RequestRegistration, AssignAllocId, KeyControl, SleepAllow, Unknown}
-use Rattle.ploam.specs.declared.Message.{Message}
 use Rattle.ploam.specs.declared.Completion.the-variants.{Ok}
+use Rattle.ploam.specs.declared.Message.{Message}
 use Rattle.ploam.specs.Reading.{serialAt}
 use Rattle.station.specs.declared.Activation.{Activation}
 use Rattle.station.specs.declared.Activation.the-variants.{Initial, SerialNumber, Ranging, Operation, Intermittent, EmergencyStop}
 use Rattle.station.specs.declared.Station.{Station}
 use Rattle.link.specs.declared.Allocs.{Allocs}
 use Rattle.link.specs.Limits.{addedAllocs, mostOwed}
-use Rattle.station.specs.States.{holdsIdentity, stateNumber, o23, o4, o5}
+use Rattle.station.specs.States.{holdsIdentity, silent, stateNumber, o23, o4, o5}
 use Rattle.link.specs.Link.{allocPlace}
 use Rattle.validity.specs.Ranges.{timerFits}
 use Rattle.validity.proofs.Tests.{both}
@@ -41,15 +42,6 @@ use Rattle.ids.specs.Places.{isHeld}
 
 -- ---- the statement
 
--- the states in which a Profile is taken: "broadcast in O2-3, O4, O5; directed in O5 only"
-abbrev pub hears : Activation → Bool
-hears Initial = false
-hears SerialNumber = true
-hears (Ranging left) = true
-hears Operation = true
-hears (Intermittent left) = false
-hears EmergencyStop = false
-
 abbrev pub ValidChange : Station → Change → Type 0
 ValidChange s Keep = Unit {0}
 ValidChange s (Identify onu) = assignableOnu onu ≡ true
@@ -58,7 +50,7 @@ ValidChange s (Delay delay) = holdsIdentity (s .activation) ≡ true
 ValidChange s (AddAlloc id) =
     (holdsIdentity (s .activation) ≡ true) × (assignableAlloc id ≡ true) × (isHeld (allocPlace (s .link .allocs) id) ≡ false)
 ValidChange s (RemoveAlloc id) = holdsIdentity (s .activation) ≡ true
-ValidChange s (SetProfile index parity) = hears (s .activation) ≡ true
+ValidChange s (SetProfile index parity) = silent (s .activation) ≡ false
 ValidChange s (Enter a) = (holdsIdentity a ≡ false) × (timerFits a ≡ true)
 
 -- the change leaves an identity where there is one
@@ -105,7 +97,7 @@ module _ (s : Station) where
   in-o4 (Intermittent left) e = refl
   in-o4 EmergencyStop e = absurd (false≢true e)
 
-  heard : (a : Activation) → (eqb (stateNumber a) o23 || (eqb (stateNumber a) o4 || eqb (stateNumber a) o5)) ≡ true → hears a ≡ true
+  heard : (a : Activation) → (eqb (stateNumber a) o23 || (eqb (stateNumber a) o4 || eqb (stateNumber a) o5)) ≡ true → silent a ≡ false
   heard Initial e = absurd (false≢true e)
   heard SerialNumber e = refl
   heard (Ranging left) e = refl
@@ -113,27 +105,25 @@ module _ (s : Station) where
   heard (Intermittent left) e = absurd (false≢true e)
   heard EmergencyStop e = absurd (false≢true e)
 
-  heard-in-o5 : (a : Activation) → eqb (stateNumber a) o5 ≡ true → hears a ≡ true
-  heard-in-o5 Initial e = absurd (false≢true e)
-  heard-in-o5 SerialNumber e = absurd (false≢true e)
-  heard-in-o5 (Ranging left) e = absurd (false≢true e)
-  heard-in-o5 Operation e = refl
-  heard-in-o5 (Intermittent left) e = absurd (false≢true e)
-  heard-in-o5 EmergencyStop e = absurd (false≢true e)
+  heard-o5 : (a : Activation) → eqb (stateNumber a) o5 ≡ true → silent a ≡ false
+  heard-o5 Initial e = absurd (false≢true e)
+  heard-o5 SerialNumber e = refl
+  heard-o5 (Ranging left) e = refl
+  heard-o5 Operation e = refl
+  heard-o5 (Intermittent left) e = absurd (false≢true e)
+  heard-o5 EmergencyStop e = absurd (false≢true e)
 
 -- ---- the bullets
 module _ (s : Station) where
   profile-valid : (b : Bool) (seq index : ℕ) (parity : Bool) → Valid s (profile (stateNumber (s .activation)) b seq index parity)
   unfolding profile
   profile-valid true seq index parity =
-      choose (Valid s)
-      (eqb (stateNumber (s .activation)) o23 || (eqb (stateNumber (s .activation)) o4 || eqb (stateNumber (s .activation)) o5))
-      (does (SetProfile index parity)) ignored
+      choose (Valid s) (eqb (stateNumber (s .activation)) o23 || (eqb (stateNumber (s .activation)) o4 || eqb (stateNumber (s .activation)) o5)) (does (SetProfile index parity)) ignored
       (λ h. (heard s (s .activation) h, tt))
       (λ h. nothing-wrong s)
   profile-valid false seq index parity =
       choose (Valid s) (eqb (stateNumber (s .activation)) o5) (answers (SetProfile index parity) Ok seq) ignored
-      (λ h. (heard-in-o5 s (s .activation) h, (in-o5 s (s .activation) h, refl)))
+      (λ h. (heard-o5 s (s .activation) h, (in-o5 s (s .activation) h, refl)))
       (λ h. nothing-wrong s)
 
   assign-onu : (b own : Bool) (onu : OnuId) → Valid s (assignOnuId (stateNumber (s .activation)) b own onu)

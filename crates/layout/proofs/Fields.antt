@@ -20,6 +20,10 @@ use Rattle.link.specs.declared.Owed.{Owed}
 use Rattle.link.specs.declared.Key.{Key}
 use Rattle.link.specs.declared.Allocs.{Allocs}
 use Rattle.link.specs.declared.Queue.{Queue}
+use Rattle.link.specs.declared.Parity.{Parity}
+use Rattle.link.specs.declared.Parity.the-variants.{NotReceived, Off, On}
+use Rattle.link.specs.declared.Profile.{Profile}
+use Rattle.link.specs.declared.Profiles.{Profiles}
 use Rattle.link.specs.declared.Link.{Link}
 use Rattle.ports.specs.declared.Ports.{Ports}
 use Rattle.link.specs.Limits.{addedAllocs, mostOwed}
@@ -27,8 +31,10 @@ use Rattle.link.specs.Limits as limits
 use Rattle.ports.specs.Limits.{slots, addedPorts}
 use Rattle.layout.specs.Rows.{part, each, many}
 use Rattle.layout.specs.Offsets.{idWidth, markWidth, countWidth, timeWidth, allocIdsWidth, allocsWidth, keyWidth, answerWidth, answersWidth, queueWidth, onuAt, allocsAt, delayAt, delayWidth, keyAt, queueAt, linkWidth}
+use Rattle.layout.specs.Offsets.{profileWidth, profilesAt, profilesWidth}
 use Rattle.layout.specs.Offsets.{portIdsAt, portIdsWidth, lengthsAt, lengthWidth, lengthsWidth, waitingAt, waitingWidth, portsWidth}
 use Rattle.layout.specs.Layout.{timeLeft, activationOctets, activationBy, activationOf, allocOctets, allocOf, portOctets, portOf, lengthOctets, markNumber, markOctets, markOf, responseNumber, responseBy, owedOctets, owedOf, allocsOctets, allocsOf, keyOctets, keyOf, queueOctets, queueOf, linkOctets, linkOf, portsOctets, portsOf}
+use Rattle.layout.specs.Layout.{parityNumber, parityBy, profileOctets, profileOf, profilesOctets, profilesOf}
 use Rattle.layout.specs.Typed.{Every}
 use Rattle.layout.proofs.Laws.{each-length, joined}
 
@@ -135,9 +141,28 @@ key-back k e =
     let o = take-all limits.keyOctets (k .octets) (omega arith) in
     λ j. record { held = h j; octets = o j }
 
+parity-back : (p : Parity) (n : ℕ) → n ≡ parityNumber p → parityBy n ≡ p
+parity-back NotReceived n e = rw e
+parity-back Off n e = rw e
+parity-back On n e = rw e
+
+profile-back : (p : Profile) → profileOf (profileOctets p) ≡ p
+profile-back p =
+    let r = parity-back (p .parity) (value (parityNumber (p .parity) ∷ [])) (omega arith) in
+    λ j. record { parity = r j }
+
+pub profiles-length : (p : Profiles) → length (p .held) ≡ limits.profiles → length (profilesOctets p) ≡ profilesWidth
+profiles-length p e = each-length profileOctets profileWidth (λ x. refl) (p .held) ∙ ap (λ (n : ℕ). profileWidth * n) e
+
+pub profiles-back : (p : Profiles) → length (p .held) ≡ limits.profiles → profilesOf (profilesOctets p) ≡ p
+unfolding profilesOf
+profiles-back p e =
+    let i : many profileOf profileWidth limits.profiles (each profileOctets (p .held)) ≡ p .held = ap (λ (n : ℕ). many profileOf profileWidth n (each profileOctets (p .held))) (sym e) ∙ many-each profileOf profileOctets profileWidth (λ (q : Profile). Unit {0}) (λ q h. profile-back q) (λ x. refl) (p .held) (every-unit (p .held)) in
+    λ j. record { held = i j }
+
 -- ---- the link and the ports
 
-module _ (l : Link) (e-allocs : length (l .allocs .ids) ≡ addedAllocs) (e-key : length (l .key .octets) ≡ limits.keyOctets) (e-answers : length (l .owed .answers) ≡ mostOwed) where
+module _ (l : Link) (e-allocs : length (l .allocs .ids) ≡ addedAllocs) (e-key : length (l .key .octets) ≡ limits.keyOctets) (e-answers : length (l .owed .answers) ≡ mostOwed) (e-profiles : length (l .profiles .held) ≡ limits.profiles) where
   l2 : length (octets idWidth (l .onu .0) ++ allocsOctets (l .allocs)) ≡ delayAt
   l2 = joined (octets idWidth (l .onu .0)) (allocsOctets (l .allocs)) allocsAt allocsWidth refl (allocs-length (l .allocs) e-allocs)
 
@@ -147,8 +172,11 @@ module _ (l : Link) (e-allocs : length (l .allocs .ids) ≡ addedAllocs) (e-key 
   l4 : length (((octets idWidth (l .onu .0) ++ allocsOctets (l .allocs)) ++ octets delayWidth (l .delay)) ++ keyOctets (l .key)) ≡ queueAt
   l4 = joined ((octets idWidth (l .onu .0) ++ allocsOctets (l .allocs)) ++ octets delayWidth (l .delay)) (keyOctets (l .key)) keyAt keyWidth l3 (key-length (l .key) e-key)
 
+  l5 : length ((((octets idWidth (l .onu .0) ++ allocsOctets (l .allocs)) ++ octets delayWidth (l .delay)) ++ keyOctets (l .key)) ++ queueOctets (l .owed)) ≡ profilesAt
+  l5 = joined (((octets idWidth (l .onu .0) ++ allocsOctets (l .allocs)) ++ octets delayWidth (l .delay)) ++ keyOctets (l .key)) (queueOctets (l .owed)) queueAt queueWidth l4 (queue-length (l .owed) e-answers)
+
   pub link-length : length (linkOctets l) ≡ linkWidth
-  link-length = joined (((octets idWidth (l .onu .0) ++ allocsOctets (l .allocs)) ++ octets delayWidth (l .delay)) ++ keyOctets (l .key)) (queueOctets (l .owed)) queueAt queueWidth l4 (queue-length (l .owed) e-answers)
+  link-length = joined ((((octets idWidth (l .onu .0) ++ allocsOctets (l .allocs)) ++ octets delayWidth (l .delay)) ++ keyOctets (l .key)) ++ queueOctets (l .owed)) (profilesOctets (l .profiles)) profilesAt profilesWidth l5 (profiles-length (l .profiles) e-profiles)
 
   pub link-back
       : l .onu .0 < 256 ^ idWidth → Every (λ (id : AllocId). id .0 < 256 ^ idWidth) (l .allocs .ids) → l .allocs .count < 256 ^ countWidth
@@ -159,17 +187,21 @@ module _ (l : Link) (e-allocs : length (l .allocs .ids) ≡ addedAllocs) (e-key 
       let p3 : List ℕ = p2 ++ octets delayWidth (l .delay) in
       let p4 : List ℕ = p3 ++ keyOctets (l .key) in
       let q : List ℕ = queueOctets (l .owed) in
-      let n1 : part onuAt idWidth (p4 ++ q) ≡ octets idWidth (l .onu .0) = front p4 q onuAt idWidth (omega (arith, l4)) ∙ front p3 (keyOctets (l .key)) onuAt idWidth (omega (arith, l3)) ∙ front p2 (octets delayWidth (l .delay)) onuAt idWidth (omega (arith, l2)) ∙ refl in
-      let n2 : part allocsAt allocsWidth (p4 ++ q) ≡ allocsOctets (l .allocs) = front p4 q allocsAt allocsWidth (omega (arith, l4)) ∙ front p3 (keyOctets (l .key)) allocsAt allocsWidth (omega (arith, l3)) ∙ front p2 (octets delayWidth (l .delay)) allocsAt allocsWidth (omega (arith, l2)) ∙ back (octets idWidth (l .onu .0)) (allocsOctets (l .allocs)) allocsAt allocsWidth refl (allocs-length (l .allocs) e-allocs) in
-      let n3 : part delayAt delayWidth (p4 ++ q) ≡ octets delayWidth (l .delay) = front p4 q delayAt delayWidth (omega (arith, l4)) ∙ front p3 (keyOctets (l .key)) delayAt delayWidth (omega (arith, l3)) ∙ back p2 (octets delayWidth (l .delay)) delayAt delayWidth l2 refl in
-      let n4 : part keyAt keyWidth (p4 ++ q) ≡ keyOctets (l .key) = front p4 q keyAt keyWidth (omega (arith, l4)) ∙ back p3 (keyOctets (l .key)) keyAt keyWidth l3 (key-length (l .key) e-key) in
-      let n5 : part queueAt queueWidth (p4 ++ q) ≡ q = back p4 q queueAt queueWidth l4 (queue-length (l .owed) e-answers) in
+      let p5 : List ℕ = p4 ++ q in
+      let r : List ℕ = profilesOctets (l .profiles) in
+      let n1 : part onuAt idWidth (p5 ++ r) ≡ octets idWidth (l .onu .0) = front p5 r onuAt idWidth (omega (arith, l5)) ∙ front p4 q onuAt idWidth (omega (arith, l4)) ∙ front p3 (keyOctets (l .key)) onuAt idWidth (omega (arith, l3)) ∙ front p2 (octets delayWidth (l .delay)) onuAt idWidth (omega (arith, l2)) ∙ refl in
+      let n2 : part allocsAt allocsWidth (p5 ++ r) ≡ allocsOctets (l .allocs) = front p5 r allocsAt allocsWidth (omega (arith, l5)) ∙ front p4 q allocsAt allocsWidth (omega (arith, l4)) ∙ front p3 (keyOctets (l .key)) allocsAt allocsWidth (omega (arith, l3)) ∙ front p2 (octets delayWidth (l .delay)) allocsAt allocsWidth (omega (arith, l2)) ∙ back (octets idWidth (l .onu .0)) (allocsOctets (l .allocs)) allocsAt allocsWidth refl (allocs-length (l .allocs) e-allocs) in
+      let n3 : part delayAt delayWidth (p5 ++ r) ≡ octets delayWidth (l .delay) = front p5 r delayAt delayWidth (omega (arith, l5)) ∙ front p4 q delayAt delayWidth (omega (arith, l4)) ∙ front p3 (keyOctets (l .key)) delayAt delayWidth (omega (arith, l3)) ∙ back p2 (octets delayWidth (l .delay)) delayAt delayWidth l2 refl in
+      let n4 : part keyAt keyWidth (p5 ++ r) ≡ keyOctets (l .key) = front p5 r keyAt keyWidth (omega (arith, l5)) ∙ front p4 q keyAt keyWidth (omega (arith, l4)) ∙ back p3 (keyOctets (l .key)) keyAt keyWidth l3 (key-length (l .key) e-key) in
+      let n5 : part queueAt queueWidth (p5 ++ r) ≡ q = front p5 r queueAt queueWidth (omega (arith, l5)) ∙ back p4 q queueAt queueWidth l4 (queue-length (l .owed) e-answers) in
+      let n6 : part profilesAt profilesWidth (p5 ++ r) ≡ r = back p5 r profilesAt profilesWidth l5 (profiles-length (l .profiles) e-profiles) in
       let f1 = ap value n1 ∙ value-octets idWidth (l .onu .0) h1 in
       let f2 = ap allocsOf n2 ∙ allocs-back (l .allocs) e-allocs h2 h3 in
       let f3 = ap value n3 ∙ value-octets delayWidth (l .delay) h4 in
       let f4 = ap keyOf n4 ∙ key-back (l .key) e-key in
       let f5 = ap queueOf n5 ∙ queue-back (l .owed) e-answers h5 in
-      λ j. record { onu = record { 0 = f1 j }; allocs = f2 j; delay = f3 j; key = f4 j; owed = f5 j }
+      let f6 = ap profilesOf n6 ∙ profiles-back (l .profiles) e-profiles in
+      λ j. record { onu = record { 0 = f1 j }; allocs = f2 j; delay = f3 j; key = f4 j; owed = f5 j; profiles = f6 j }
 
 module _ (p : Ports) (e-ids : length (p .ids) ≡ addedPorts) (e-lengths : length (p .lengths) ≡ slots) (e-waiting : length (p .waiting) ≡ slots) where
   m1 : length (each portOctets (p .ids)) ≡ portIdsWidth

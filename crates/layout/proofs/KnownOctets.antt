@@ -22,11 +22,11 @@ use Rattle.link.specs.Limits as limits
 use Rattle.ports.specs.Limits.{slots, addedPorts}
 use Rattle.layout.specs.Rows.{part, each, many}
 use Rattle.layout.specs.Offsets.{idWidth, markWidth, countWidth, numberAt, numberWidth, timeAt, timeWidth, versionAt, versionWidth, stateVersion, activationAt, activationWidth, allocIdsAt, allocIdsWidth, allocsWidth, heldAt, keyOctetsAt, keyWidth}
-use Rattle.layout.specs.Offsets.{answerWidth, answersAt, answersWidth, queueWidth, onuAt, allocsAt, delayAt, delayWidth, keyAt, queueAt, linkWidth, portIdsAt, portIdsWidth, lengthsAt, lengthWidth, lengthsWidth, waitingAt, waitingWidth, portsWidth}
+use Rattle.layout.specs.Offsets.{answerWidth, answersAt, answersWidth, queueWidth, onuAt, allocsAt, delayAt, delayWidth, keyAt, queueAt, profileWidth, profilesAt, profilesWidth, linkWidth, portIdsAt, portIdsWidth, lengthsAt, lengthWidth, lengthsWidth, waitingAt, waitingWidth, portsWidth}
 use Rattle.layout.specs.Offsets.{serialAt, registrationAt, linkAt, portsAt, carriedAt, wordsWidth, stateBytes}
-use Rattle.layout.specs.Layout.{timeLeft, activationBy, activationOf, activationOctets, allocOf, allocOctets, allocsOf, allocsOctets, markOf, markNumber, markOctets, keyOf, keyOctets, responseNumber, responseBy, owedOf, owedOctets, queueOf, queueOctets, linkOf, linkOctets, portOf, portOctets, lengthOctets, portsOf, portsOctets, encoded, shown}
+use Rattle.layout.specs.Layout.{timeLeft, activationBy, activationOf, activationOctets, allocOf, allocOctets, allocsOf, allocsOctets, markOf, markNumber, markOctets, keyOf, keyOctets, responseNumber, responseBy, owedOf, owedOctets, queueOf, queueOctets, parityNumber, parityBy, profileOf, profileOctets, profilesOf, profilesOctets, linkOf, linkOctets, portOf, portOctets, lengthOctets, portsOf, portsOctets, encoded, shown}
 use Rattle.layout.proofs.Refused.{part-length}
-use Rattle.layout.specs.KnownOctets.{activationKnown, markKnown, answerKnown, eachKnown, octetsKnown}
+use Rattle.layout.specs.KnownOctets.{activationKnown, markKnown, answerKnown, profileKnown, eachKnown, octetsKnown}
 
 -- ---- octets
 
@@ -178,6 +178,24 @@ answer-like (n ∷ (m ∷ [])) e h = (
 )
 answer-like (n ∷ (m ∷ (k ∷ x))) e h = absurd (omega arith)
 
+above-two : (n : ℕ) → (n ≡ 0 → ⊥) → (n ≡ 1 → ⊥) → (n ≡ 2 → ⊥) → 2 < n
+above-two n h0 h1 h2 = omega arith
+
+profile-number : (n : ℕ) → eqb (parityNumber (parityBy n)) n ≡ profileKnown n
+profile-number n =
+    either P n 0 refl (λ h0. either P n 1 refl (λ h1. either P n 2 refl (λ h2.
+    rw (ne-eqb n 1 h1, ne-eqb n 2 h2, ne-eqb 0 n (λ e. h0 (sym e)), lt-leb n 2 (above-two n h0 h1 h2)))))
+  where
+    P : ℕ → Type 0
+    P k = eqb (parityNumber (parityBy k)) k ≡ leb k 2
+
+profile-like : (x : List ℕ) → length x ≡ profileWidth → Octets x → Like (profileOctets (profileOf x)) x (profileKnown (getD x 0 0))
+unfolding same
+profile-like [] e h = absurd (omega arith)
+profile-like (n ∷ []) e h =
+    (refl, and-true (eqb (parityNumber (parityBy (value (n ∷ [])))) n) ∙ ap (λ (k : ℕ). eqb (parityNumber (parityBy k)) n) (value-one n) ∙ profile-number n)
+profile-like (n ∷ (m ∷ x)) e h = absurd (omega arith)
+
 -- the time that is read is that of the state or none
 left-lt : (n l : ℕ) → l < 256 ^ timeWidth → timeLeft (activationBy n l) < 256 ^ timeWidth
 left-lt n l h = go (eqb n 2) (eqb n 4) (eqb n 5) (eqb n 6) (eqb n 7)
@@ -273,11 +291,16 @@ queue-like c e h =
     (grow answersAt answersWidth (take countWidth c) c refl ∙ take-all queueWidth c (omega arith))
     refl
 
+profiles-like : (c : List ℕ) → length c ≡ profilesWidth → Octets c → Like (profilesOctets (profilesOf c)) c (eachKnown profileKnown profileWidth limits.profiles c)
+unfolding profilesOf
+profiles-like c e h = each-like profileOf profileOctets profileWidth profileKnown (lit< tt) profile-like limits.profiles c e h
+
 link-like : (c : List ℕ) → length c ≡ linkWidth → Octets c
-    → Like (linkOctets (linkOf c)) c (markKnown (getD (part keyAt keyWidth c) 0 0) && eachKnown answerKnown answerWidth mostOwed (part answersAt answersWidth (part queueAt queueWidth c)))
+    → Like (linkOctets (linkOf c)) c ((markKnown (getD (part keyAt keyWidth c) 0 0) && eachKnown answerKnown answerWidth mostOwed (part answersAt answersWidth (part queueAt queueWidth c))) && eachKnown profileKnown profileWidth limits.profiles (part profilesAt profilesWidth c))
 unfolding linkOf
 link-like c e h =
-    at (linkOctets (linkOf c)) ((((take idWidth c ++ part allocsAt allocsWidth c) ++ part delayAt delayWidth c) ++ part keyAt keyWidth c) ++ part queueAt queueWidth c) c _ _
+    at (linkOctets (linkOf c)) (((((take idWidth c ++ part allocsAt allocsWidth c) ++ part delayAt delayWidth c) ++ part keyAt keyWidth c) ++ part queueAt queueWidth c) ++ part profilesAt profilesWidth c) c _ _
+    (joint _ ((((take idWidth c ++ part allocsAt allocsWidth c) ++ part delayAt delayWidth c) ++ part keyAt keyWidth c) ++ part queueAt queueWidth c) _ (part profilesAt profilesWidth c) _ _
     (joint _ (((take idWidth c ++ part allocsAt allocsWidth c) ++ part delayAt delayWidth c) ++ part keyAt keyWidth c) _ (part queueAt queueWidth c) _ _
     (joint _ ((take idWidth c ++ part allocsAt allocsWidth c) ++ part delayAt delayWidth c) _ (part keyAt keyWidth c) true _
     (joint _ (take idWidth c ++ part allocsAt allocsWidth c) _ (part delayAt delayWidth c) true true
@@ -285,7 +308,8 @@ link-like c e h =
     (number-like delayWidth (part delayAt delayWidth c) (part-length delayAt delayWidth c (omega arith)) (octets-part delayAt delayWidth c h)))
     (key-like (part keyAt keyWidth c) (part-length keyAt keyWidth c (omega arith)) (octets-part keyAt keyWidth c h)))
     (queue-like (part queueAt queueWidth c) (part-length queueAt queueWidth c (omega arith)) (octets-part queueAt queueWidth c h)))
-    (grow queueAt queueWidth _ c (grow keyAt keyWidth _ c (grow delayAt delayWidth _ c (grow allocsAt allocsWidth _ c refl))) ∙ take-all linkWidth c (omega arith))
+    (profiles-like (part profilesAt profilesWidth c) (part-length profilesAt profilesWidth c (omega arith)) (octets-part profilesAt profilesWidth c h)))
+    (grow profilesAt profilesWidth _ c (grow queueAt queueWidth _ c (grow keyAt keyWidth _ c (grow delayAt delayWidth _ c (grow allocsAt allocsWidth _ c refl)))) ∙ take-all linkWidth c (omega arith))
     refl
 
 ports-like : (c : List ℕ) → length c ≡ portsWidth → Octets c → Like (portsOctets (portsOf c)) c (eachKnown markKnown markWidth slots (part waitingAt waitingWidth c))
@@ -306,11 +330,12 @@ version-like (n ∷ (m ∷ x)) e = absurd (omega arith)
 
 -- ---- the state
 
-in-order : (v a m w p : Bool) → ((((((v && a) && true) && true) && (m && w)) && p) && true) ≡ (v && (a && (m && (w && p))))
-in-order true true true w p = and-true (w && p)
-in-order true true false w p = refl
-in-order true false m w p = refl
-in-order false a m w p = refl
+in-order : (v a m w f p : Bool) → ((((((v && a) && true) && true) && ((m && w) && f)) && p) && true) ≡ (v && (a && (m && (w && (f && p)))))
+in-order true true true true f p = and-true (f && p)
+in-order true true true false f p = refl
+in-order true true false w f p = refl
+in-order true false m w f p = refl
+in-order false a m w f p = refl
 
 pub octets-known : (b : List ℕ) → stateBytes ≤ length b → Octets b → same (encoded (shown b)) (take stateBytes b) ≡ octetsKnown b
 unfolding encoded shown
@@ -321,6 +346,7 @@ octets-known b r h =
     let v : getD (take versionWidth b) versionAt 0 ≡ getD b versionAt 0 = getD-take versionWidth b 0 0 (lit< tt) in
     let k : getD (part keyAt keyWidth l) 0 0 ≡ getD b (linkAt + keyAt + heldAt) 0 = ap (λ (x : List ℕ). getD x 0 0) (part-part keyAt keyWidth linkAt linkWidth b (omega arith)) ∙ part-first (linkAt + keyAt) keyWidth b (lit< tt) in
     let w : part answersAt answersWidth (part queueAt queueWidth l) ≡ part (linkAt + queueAt + answersAt) answersWidth b = part-part answersAt answersWidth queueAt queueWidth l (omega arith) ∙ part-part (queueAt + answersAt) answersWidth linkAt linkWidth b (omega arith) in
+    let f : part profilesAt profilesWidth l ≡ part (linkAt + profilesAt) profilesWidth b = part-part profilesAt profilesWidth linkAt linkWidth b (omega arith) in
     let m : part waitingAt waitingWidth p ≡ part (portsAt + waitingAt) waitingWidth b = part-part waitingAt waitingWidth portsAt portsWidth b (omega arith) in
     let q =
     joint _ ((i ++ l) ++ p) _ (part carriedAt wordsWidth b) _ true
@@ -337,9 +363,10 @@ octets-known b r h =
     in
     let cut = grow carriedAt wordsWidth _ b (grow portsAt portsWidth _ b (grow linkAt linkWidth _ b (grow registrationAt registrationOctets _ b (grow serialAt serialOctets _ b (grow activationAt activationWidth _ b refl))))) in
     ap (same (encoded (shown b))) (sym cut) ∙ q .1
-    ∙ in-order (eqb (getD (take versionWidth b) versionAt 0) stateVersion) (activationKnown (part activationAt activationWidth b)) (markKnown (getD (part keyAt keyWidth l) 0 0)) (eachKnown answerKnown answerWidth mostOwed (part answersAt answersWidth (part queueAt queueWidth l))) (eachKnown markKnown markWidth slots (part waitingAt waitingWidth p))
-    ∙ ap₂ (λ (n x : ℕ). eqb n stateVersion && (activationKnown (part activationAt activationWidth b) && (markKnown x && (eachKnown answerKnown answerWidth mostOwed (part answersAt answersWidth (part queueAt queueWidth l)) && eachKnown markKnown markWidth slots (part waitingAt waitingWidth p))))) v k
-    ∙ ap₂ (λ (x y : List ℕ). eqb (getD b versionAt 0) stateVersion && (activationKnown (part activationAt activationWidth b) && (markKnown (getD b (linkAt + keyAt + heldAt) 0) && (eachKnown answerKnown answerWidth mostOwed x && eachKnown markKnown markWidth slots y)))) w m
+    ∙ in-order (eqb (getD (take versionWidth b) versionAt 0) stateVersion) (activationKnown (part activationAt activationWidth b)) (markKnown (getD (part keyAt keyWidth l) 0 0)) (eachKnown answerKnown answerWidth mostOwed (part answersAt answersWidth (part queueAt queueWidth l))) (eachKnown profileKnown profileWidth limits.profiles (part profilesAt profilesWidth l)) (eachKnown markKnown markWidth slots (part waitingAt waitingWidth p))
+    ∙ ap₂ (λ (n x : ℕ). eqb n stateVersion && (activationKnown (part activationAt activationWidth b) && (markKnown x && (eachKnown answerKnown answerWidth mostOwed (part answersAt answersWidth (part queueAt queueWidth l)) && (eachKnown profileKnown profileWidth limits.profiles (part profilesAt profilesWidth l) && eachKnown markKnown markWidth slots (part waitingAt waitingWidth p)))))) v k
+    ∙ ap₂ (λ (x z : List ℕ). eqb (getD b versionAt 0) stateVersion && (activationKnown (part activationAt activationWidth b) && (markKnown (getD b (linkAt + keyAt + heldAt) 0) && (eachKnown answerKnown answerWidth mostOwed x && (eachKnown profileKnown profileWidth limits.profiles z && eachKnown markKnown markWidth slots (part waitingAt waitingWidth p)))))) w f
+    ∙ ap (λ (y : List ℕ). eqb (getD b versionAt 0) stateVersion && (activationKnown (part activationAt activationWidth b) && (markKnown (getD b (linkAt + keyAt + heldAt) 0) && (eachKnown answerKnown answerWidth mostOwed (part (linkAt + queueAt + answersAt) answersWidth b) && (eachKnown profileKnown profileWidth limits.profiles (part (linkAt + profilesAt) profilesWidth b) && eachKnown markKnown markWidth slots y))))) m
 
 -- ---- tests of octets, one turn at a time
 

@@ -15,11 +15,12 @@ use Rattle.xgem.specs.Reads.{fields, unreadable}
 use Rattle.station.specs.declared.Station.{Station}
 use Rattle.station.specs.Limits.{serialOctets, registrationOctets}
 use Rattle.link.specs.Limits.{addedAllocs, mostOwed, keyOctets}
+use Rattle.link.specs.Limits as limits
 use Rattle.ports.specs.Limits.{slots, addedPorts}
 use Rattle.layout.specs.Rows.{part, each}
-use Rattle.layout.specs.Offsets.{versionAt, versionWidth, stateVersion, idWidth, markWidth, activationAt, activationWidth, allocIdsAt, allocIdsWidth, allocsAt, allocsWidth, keyOctetsAt, keyAt, keyWidth, answerWidth, answersAt, answersWidth, queueAt, queueWidth, linkAt, linkWidth}
+use Rattle.layout.specs.Offsets.{versionAt, versionWidth, stateVersion, idWidth, markWidth, activationAt, activationWidth, allocIdsAt, allocIdsWidth, allocsAt, allocsWidth, keyOctetsAt, keyAt, keyWidth, answerWidth, answersAt, answersWidth, queueAt, queueWidth, profileWidth, profilesAt, profilesWidth, linkAt, linkWidth}
 use Rattle.layout.specs.Offsets.{portIdsAt, portIdsWidth, lengthsAt, lengthWidth, lengthsWidth, waitingAt, waitingWidth, serialAt, registrationAt, portsAt, portsWidth, carriedAt, wordsWidth, stateBytes}
-use Rattle.layout.specs.Layout.{activationOctets, identityOctets, allocOf, portOf, markOf, owedOf, allocsOf, keyOf, queueOf, linkOf, linkOctets, portsOf, portsOctets, encoded, shown, readOf, decoded}
+use Rattle.layout.specs.Layout.{activationOctets, identityOctets, allocOf, portOf, markOf, owedOf, profileOf, allocsOf, keyOf, queueOf, profilesOf, linkOf, linkOctets, portsOf, portsOctets, encoded, shown, readOf, decoded}
 use Rattle.layout.specs.Typed.{Sized}
 use Rattle.layout.proofs.Laws.{many-length}
 use Rattle.layout.proofs.Fields.{front, back}
@@ -29,7 +30,7 @@ pub part-length : (o w : ℕ) (b : List ℕ) → o + w ≤ length b → length (
 part-length o w b h = simp (length-take, length-drop) (omega arith)
 
 shown-sized : (b : List ℕ) → stateBytes ≤ length b → Sized (shown b)
-unfolding shown linkOf allocsOf keyOf queueOf portsOf
+unfolding shown linkOf allocsOf keyOf queueOf profilesOf portsOf
 shown-sized b h =
     let l : length (part linkAt linkWidth b) ≡ linkWidth = part-length linkAt linkWidth b (omega arith) in
     let k : length (part keyAt keyWidth (part linkAt linkWidth b)) ≡ keyWidth = part-length keyAt keyWidth (part linkAt linkWidth b) (omega arith) in
@@ -39,6 +40,7 @@ shown-sized b h =
       allocs = many-length allocOf idWidth addedAllocs (part allocIdsAt allocIdsWidth (part allocsAt allocsWidth (part linkAt linkWidth b)));
       key = part-length keyOctetsAt keyOctets (part keyAt keyWidth (part linkAt linkWidth b)) (omega arith);
       answers = many-length owedOf answerWidth mostOwed (part answersAt answersWidth (part queueAt queueWidth (part linkAt linkWidth b)));
+      profiles = many-length profileOf profileWidth limits.profiles (part profilesAt profilesWidth (part linkAt linkWidth b));
       ports = many-length portOf idWidth addedPorts (part portIdsAt portIdsWidth (part portsAt portsWidth b));
       lengths = many-length value lengthWidth slots (part lengthsAt lengthsWidth (part portsAt portsWidth b));
       waiting = many-length markOf markWidth slots (part waitingAt waitingWidth (part portsAt portsWidth b));

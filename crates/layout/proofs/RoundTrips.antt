@@ -33,7 +33,7 @@ module _ (s : Station) (t : Sized s) where
   i3 = joined ((octets versionWidth stateVersion ++ activationOctets (s .activation)) ++ s .serial) (s .registration) registrationAt registrationOctets i2 (t .registration)
 
   a1 : length (linkOctets (s .link)) ≡ linkWidth
-  a1 = link-length (s .link) (t .allocs) (t .key) (t .answers)
+  a1 = link-length (s .link) (t .allocs) (t .key) (t .answers) (t .profiles)
 
   pub a2 : length (portsOctets (s .ports)) ≡ portsWidth
   a2 = ports-length (s .ports) (t .ports) (t .lengths) (t .waiting)
@@ -71,7 +71,7 @@ module _ (s : Station) (t : Typed s) (rest : List ℕ) where
       let n5 : part portsAt portsWidth (encoded s ++ rest) ≡ p = in-state s (t .sized) rest portsAt portsWidth (omega arith) ∙ front ((i ++ l) ++ p) c portsAt portsWidth (omega (arith, (i5 s (t .sized)))) ∙ back (i ++ l) p portsAt portsWidth (i4 s (t .sized)) (a2 s (t .sized)) in
       let n6 : part carriedAt wordsWidth (encoded s ++ rest) ≡ octets wordsWidth (s .carried) = in-state s (t .sized) rest carriedAt wordsWidth (omega arith) ∙ back ((i ++ l) ++ p) c carriedAt wordsWidth (i5 s (t .sized)) refl in
       let f1 = ap activationOf n1 ∙ activation-back (s .activation) (t .left) in
-      let f4 = ap linkOf n4 ∙ link-back (s .link) (t .sized .allocs) (t .sized .key) (t .sized .answers) (t .onu) (t .alloc-ids) (t .alloc-count) (t .delay) (t .owed-count) in
+      let f4 = ap linkOf n4 ∙ link-back (s .link) (t .sized .allocs) (t .sized .key) (t .sized .answers) (t .sized .profiles) (t .onu) (t .alloc-ids) (t .alloc-count) (t .delay) (t .owed-count) in
       let f5 = ap portsOf n5 ∙ ports-back (s .ports) (t .sized .ports) (t .sized .lengths) (t .sized .waiting) (t .port-ids) (t .partials) in
       let f6 = ap value n6 ∙ value-octets wordsWidth (s .carried) (t .carried) in
       λ j. record { activation = f1 j; serial = n2 j; registration = n3 j; link = f4 j; ports = f5 j; carried = f6 j }

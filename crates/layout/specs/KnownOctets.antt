@@ -8,9 +8,9 @@ use lib.ListN.{getD, drop}
 use Rattle.octets.specs.Octets.{value}
 use Rattle.station.specs.States.{stateNumber}
 use Rattle.ports.specs.Limits.{slots}
-use Rattle.link.specs.Limits.{mostOwed}
+use Rattle.link.specs.Limits.{mostOwed, profiles}
 use Rattle.layout.specs.Rows.{part}
-use Rattle.layout.specs.Offsets.{numberAt, numberWidth, timeAt, timeWidth, versionAt, stateVersion, activationAt, activationWidth, linkAt, keyAt, heldAt, queueAt, answersAt, answerWidth, answersWidth, portsAt, waitingAt, markWidth, waitingWidth}
+use Rattle.layout.specs.Offsets.{numberAt, numberWidth, timeAt, timeWidth, versionAt, stateVersion, activationAt, activationWidth, linkAt, keyAt, heldAt, queueAt, answersAt, answerWidth, answersWidth, profilesAt, profileWidth, profilesWidth, portsAt, waitingAt, markWidth, waitingWidth}
 use Rattle.layout.specs.Layout.{activationOf, timeLeft}
 
 -- the number is the state's, and the time is 0 where the state carries none
@@ -25,16 +25,21 @@ markKnown number = leb number 1
 abbrev pub answerKnown : ℕ → Bool
 answerKnown number = leb number 6 && not (eqb number 3)
 
+-- not received is 0, without parity 1, with parity 2
+abbrev pub profileKnown : ℕ → Bool
+profileKnown number = leb number 2
+
 -- the first octet of each of n fields, so many octets wide
 abbrev pub eachKnown : (ℕ → Bool) → ℕ → ℕ → List ℕ → Bool
 eachKnown f width zero c = true
 eachKnown f width (suc n) c = f (getD c 0 0) && eachKnown f width n (drop width c)
 
--- the version, the activation, the mark of a held key, the answers, and the marks of ports that wait
+-- the version, the activation, the mark of a held key, the answers, the profiles, and the marks of ports that wait
 abbrev pub octetsKnown : List ℕ → Bool
 octetsKnown b =
     eqb (getD b versionAt 0) stateVersion
     && (activationKnown (part activationAt activationWidth b)
     && (markKnown (getD b (linkAt + keyAt + heldAt) 0)
     && (eachKnown answerKnown answerWidth mostOwed (part (linkAt + queueAt + answersAt) answersWidth b)
-    && eachKnown markKnown markWidth slots (part (portsAt + waitingAt) waitingWidth b))))
+    && (eachKnown profileKnown profileWidth profiles (part (linkAt + profilesAt) profilesWidth b)
+    && eachKnown markKnown markWidth slots (part (portsAt + waitingAt) waitingWidth b)))))

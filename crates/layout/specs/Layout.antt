@@ -21,6 +21,10 @@ use Rattle.link.specs.declared.Owed.{Owed}
 use Rattle.link.specs.declared.Key.{Key}
 use Rattle.link.specs.declared.Allocs.{Allocs}
 use Rattle.link.specs.declared.Queue.{Queue}
+use Rattle.link.specs.declared.Parity.{Parity}
+use Rattle.link.specs.declared.Parity.the-variants.{NotReceived, Off, On}
+use Rattle.link.specs.declared.Profile.{Profile}
+use Rattle.link.specs.declared.Profiles.{Profiles}
 use Rattle.link.specs.declared.Link.{Link}
 use Rattle.ports.specs.declared.Ports.{Ports}
 use Rattle.station.specs.States.{o23, o4, o5, o6, o7, stateNumber}
@@ -36,6 +40,7 @@ use Rattle.ports.specs.Limits.{slots, addedPorts}
 use Rattle.layout.specs.Rows.{part, each, many}
 use Rattle.layout.specs.Offsets.{idWidth, markWidth, countWidth, numberAt, numberWidth, timeAt, timeWidth, activationWidth, allocCountAt, allocIdsAt, allocIdsWidth, allocsWidth, heldAt, keyOctetsAt, keyWidth}
 use Rattle.layout.specs.Offsets.{responseAt, responseWidth, seqNoAt, seqNoWidth, answerWidth, owedCountAt, answersAt, answersWidth, queueWidth, onuAt, allocsAt, delayAt, delayWidth, keyAt, queueAt, linkWidth}
+use Rattle.layout.specs.Offsets.{profileWidth, profilesAt, profilesWidth}
 use Rattle.layout.specs.Offsets.{portIdsAt, portIdsWidth, lengthsAt, lengthWidth, lengthsWidth, waitingAt, waitingWidth, portsWidth}
 use Rattle.layout.specs.Offsets.{versionWidth, stateVersion, activationAt, serialAt, registrationAt, linkAt, portsAt, carriedAt, wordsWidth}
 pub use Rattle.layout.specs.Offsets.{stateBytes}
@@ -87,8 +92,20 @@ keyOctets k = octets markWidth (markNumber (k .held)) ++ k .octets
 abbrev pub queueOctets : Queue → List ℕ
 queueOctets q = octets countWidth (q .count) ++ each owedOctets (q .answers)
 
+-- not received is 0, without parity 1, with parity 2
+abbrev pub parityNumber : Parity → ℕ
+parityNumber NotReceived = 0
+parityNumber Off = 1
+parityNumber On = 2
+
+abbrev pub profileOctets : Profile → List ℕ
+profileOctets p = parityNumber (p .parity) ∷ []
+
+abbrev pub profilesOctets : Profiles → List ℕ
+profilesOctets p = each profileOctets (p .held)
+
 abbrev pub linkOctets : Link → List ℕ
-linkOctets l = (((octets idWidth (l .onu .0) ++ allocsOctets (l .allocs)) ++ octets delayWidth (l .delay)) ++ keyOctets (l .key)) ++ queueOctets (l .owed)
+linkOctets l = ((((octets idWidth (l .onu .0) ++ allocsOctets (l .allocs)) ++ octets delayWidth (l .delay)) ++ keyOctets (l .key)) ++ queueOctets (l .owed)) ++ profilesOctets (l .profiles)
 
 abbrev pub portsOctets : Ports → List ℕ
 portsOctets p = (each portOctets (p .ids) ++ each lengthOctets (p .lengths)) ++ each markOctets (p .waiting)
@@ -117,6 +134,9 @@ responseBy number =
     (cond (eqb number 4) (Acknowledgement UnknownMessageType)
     (cond (eqb number 5) (Acknowledgement ParameterError) (cond (eqb number 6) (Acknowledgement ProcessingError) Registration))))
 
+abbrev pub parityBy : ℕ → Parity
+parityBy number = cond (eqb number 1) Off (cond (eqb number 2) On NotReceived)
+
 unfoldable pub activationOf : List ℕ → Activation
 activationOf c = activationBy (value (part numberAt numberWidth c)) (value (part timeAt timeWidth c))
 
@@ -141,6 +161,12 @@ keyOf c = record { held = markOf (part heldAt markWidth c); octets = part keyOct
 unfoldable pub queueOf : List ℕ → Queue
 queueOf c = record { answers = many owedOf answerWidth mostOwed (part answersAt answersWidth c); count = value (part owedCountAt countWidth c) }
 
+abbrev pub profileOf : List ℕ → Profile
+profileOf c = record { parity = parityBy (value c) }
+
+unfoldable pub profilesOf : List ℕ → Profiles
+profilesOf c = record { held = many profileOf profileWidth limits.profiles c }
+
 unfoldable pub linkOf : List ℕ → Link
 linkOf c =
     record {
@@ -149,6 +175,7 @@ linkOf c =
       delay = value (part delayAt delayWidth c);
       key = keyOf (part keyAt keyWidth c);
       owed = queueOf (part queueAt queueWidth c);
+      profiles = profilesOf (part profilesAt profilesWidth c);
     }
 
 unfoldable pub portsOf : List ℕ → Ports
@@ -171,8 +198,8 @@ shown b =
     }
 
 -- ---- a state has exactly one byte form: octets are read as the state that they show only where they are that state's octets. So
--- another version, an unknown number of a state or an answer, a mark other than 0 and 1, and a time in a state that carries
--- none are unreadable
+-- another version, an unknown number of a state, an answer or a profile, a mark other than 0 and 1, and a time in a state that
+-- carries none are unreadable
 unfoldable pub readOf : List ℕ → StateRead
 readOf b =
     cond (leb stateBytes (length b))

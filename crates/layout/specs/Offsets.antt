@@ -3,7 +3,7 @@
 -- Assumes nothing.
 use Prim.Native.Nat.{ℕ, _+_, _*_}
 use Rattle.station.specs.Limits.{serialOctets, registrationOctets}
-use Rattle.link.specs.Limits.{addedAllocs, mostOwed, keyOctets}
+use Rattle.link.specs.Limits.{addedAllocs, mostOwed, keyOctets, profiles}
 use Rattle.ports.specs.Limits.{slots, addedPorts}
 
 -- ---- numbers
@@ -92,7 +92,15 @@ answersWidth = answerWidth * mostOwed
 abbrev pub queueWidth : ℕ
 queueWidth = answersAt + answersWidth
 
--- ---- the link: ONU-ID, added Alloc-IDs, equalization delay, key, answers owed
+-- ---- the burst profiles, an octet for each index
+
+abbrev pub profileWidth : ℕ
+profileWidth = 1
+
+abbrev pub profilesWidth : ℕ
+profilesWidth = profileWidth * profiles
+
+-- ---- the link: ONU-ID, added Alloc-IDs, equalization delay, key, answers owed, burst profiles
 
 abbrev pub onuAt : ℕ
 onuAt = 0
@@ -112,8 +120,11 @@ keyAt = delayAt + delayWidth
 abbrev pub queueAt : ℕ
 queueAt = keyAt + keyWidth
 
+abbrev pub profilesAt : ℕ
+profilesAt = queueAt + queueWidth
+
 abbrev pub linkWidth : ℕ
-linkWidth = queueAt + queueWidth
+linkWidth = profilesAt + profilesWidth
 
 -- ---- the ports: the sixteen added, 0 where the slot is empty; the bytes of each slot's partial SDU; whether each port waits
 
@@ -152,7 +163,7 @@ versionWidth = 1
 -- The first library's form has no version: its first octet is the state's number, at most 7. So versions count from 8, and no form
 -- is taken for another.
 abbrev pub stateVersion : ℕ
-stateVersion = 8
+stateVersion = 9
 
 abbrev pub activationAt : ℕ
 activationAt = versionAt + versionWidth

@@ -10,6 +10,7 @@ use Rattle.ids.specs.declared.PortId.{PortId}
 use Rattle.station.specs.declared.Station.{Station}
 use Rattle.station.specs.Limits.{serialOctets, registrationOctets}
 use Rattle.link.specs.Limits.{addedAllocs, mostOwed, keyOctets}
+use Rattle.link.specs.Limits as limits
 use Rattle.ports.specs.Limits.{slots, addedPorts}
 use Rattle.layout.specs.Offsets.{idWidth, countWidth, timeWidth, delayWidth, lengthWidth, wordsWidth}
 use Rattle.layout.specs.Layout.{timeLeft}
@@ -25,6 +26,7 @@ pub record Sized (s : Station) : Type 0 where
   pub allocs : length (s .link .allocs .ids) ≡ addedAllocs
   pub key : length (s .link .key .octets) ≡ keyOctets
   pub answers : length (s .link .owed .answers) ≡ mostOwed
+  pub profiles : length (s .link .profiles .held) ≡ limits.profiles
   pub ports : length (s .ports .ids) ≡ addedPorts
   pub lengths : length (s .ports .lengths) ≡ slots
   pub waiting : length (s .ports .waiting) ≡ slots

@@ -1,14 +1,14 @@
-// The octets that can be no state's: another version, an unknown number of a state or an answer, a mark other than 0 and 1, and a time in
-// a state that carries none. Every other octet belongs to a field that has all its numbers.
+// The octets that can be no state's: another version, an unknown number of a state, an answer or a profile, a mark other than 0 and 1, and
+// a time in a state that carries none. Every other octet belongs to a field that has all its numbers.
 ghost use mathlib.Core.Path.{_≡_};
 ghost use Prim.Native.Nat.{_≤_};
 ghost use lib.ListN.{length, take};
 ghost use Rattle.integrity.specs.Integrity.{same};
-ghost use Rattle.link.specs.Limits.{mostOwed};
+ghost use Rattle.link.specs.Limits.{mostOwed, profiles};
 ghost use Rattle.ports.specs.Limits.{slots};
-ghost use Rattle.layout.specs.Offsets.{activationWidth, answerWidth, answersWidth, markWidth, waitingWidth, stateBytes};
+ghost use Rattle.layout.specs.Offsets.{activationWidth, answerWidth, answersWidth, profileWidth, profilesWidth, markWidth, waitingWidth, stateBytes};
 ghost use Rattle.layout.specs.Layout.{encoded, shown};
-ghost use Rattle.layout.specs.KnownOctets.{activationKnown, markKnown, answerKnown, eachKnown};
+ghost use Rattle.layout.specs.KnownOctets.{activationKnown, markKnown, answerKnown, profileKnown, eachKnown};
 use super::numbers;
 use super::offsets;
 use super::reading;
@@ -18,6 +18,8 @@ use super::writing;
 const HELD_AT: usize = offsets::LINK_AT + offsets::KEY_AT + offsets::HELD_AT;
 
 const ANSWERS_AT: usize = offsets::LINK_AT + offsets::QUEUE_AT + offsets::ANSWERS_AT;
+
+const PROFILES_AT: usize = offsets::LINK_AT + offsets::PROFILES_AT;
 
 const WAITING_AT: usize = offsets::PORTS_AT + offsets::WAITING_AT;
 
@@ -47,6 +49,12 @@ fn answer_known(number: u8) -> bool
     (number <= 6) & (number != 3)
 }
 
+fn profile_known(number: u8) -> bool
+    ensures { λ r. ⌜ r ≡ profileKnown number ⌝ }
+{
+    number <= 2
+}
+
 fn answers_known(c: &[u8]) -> bool
     requires { ⌜ length (now c) ≡ answersWidth ⌝ }
     ensures { λ r. ⌜ r ≡ eachKnown answerKnown answerWidth mostOwed (now (c .entry)) ⌝ }
@@ -55,6 +63,19 @@ fn answers_known(c: &[u8]) -> bool
     let mut i: usize = 0;
     while i < link::MOST_OWED {
         all = all & answer_known(c[offsets::ANSWER_WIDTH * i]);
+        i += 1;
+    }
+    all
+}
+
+fn profiles_known(c: &[u8]) -> bool
+    requires { ⌜ length (now c) ≡ profilesWidth ⌝ }
+    ensures { λ r. ⌜ r ≡ eachKnown profileKnown profileWidth profiles (now (c .entry)) ⌝ }
+{
+    let mut all = true;
+    let mut i: usize = 0;
+    while i < offsets::PROFILES {
+        all = all & profile_known(c[i]);
         i += 1;
     }
     all
@@ -89,7 +110,10 @@ pub(crate) fn octets_known(b: &[u8]) -> bool
     if !mark_known(held) {
         return false;
     }
-    if !answers_known(&b[ANSWERS_AT..offsets::PORTS_AT]) {
+    if !answers_known(&b[ANSWERS_AT..PROFILES_AT]) {
+        return false;
+    }
+    if !profiles_known(&b[PROFILES_AT..offsets::PORTS_AT]) {
         return false;
     }
     marks_known(&b[WAITING_AT..offsets::CARRIED_AT])

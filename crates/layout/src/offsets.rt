@@ -56,7 +56,14 @@ const ANSWERS_WIDTH: usize = ANSWER_WIDTH * link::MOST_OWED;
 
 pub(crate) const QUEUE_WIDTH: usize = ANSWERS_AT + ANSWERS_WIDTH;
 
-// The link: ONU-ID, added Alloc-IDs, equalization delay, key, answers owed.
+// The burst profiles, an octet for each index.
+pub(crate) const PROFILES: usize = link::PROFILES as usize;
+
+pub(crate) const PROFILE_WIDTH: usize = 1;
+
+const PROFILES_WIDTH: usize = PROFILE_WIDTH * PROFILES;
+
+// The link: ONU-ID, added Alloc-IDs, equalization delay, key, answers owed, burst profiles.
 pub(crate) const ONU_AT: usize = 0;
 
 pub(crate) const ALLOCS_AT: usize = ONU_AT + ID_WIDTH;
@@ -69,7 +76,9 @@ pub(crate) const KEY_AT: usize = DELAY_AT + DELAY_WIDTH;
 
 pub(crate) const QUEUE_AT: usize = KEY_AT + KEY_WIDTH;
 
-pub(crate) const LINK_WIDTH: usize = QUEUE_AT + QUEUE_WIDTH;
+pub(crate) const PROFILES_AT: usize = QUEUE_AT + QUEUE_WIDTH;
+
+pub(crate) const LINK_WIDTH: usize = PROFILES_AT + PROFILES_WIDTH;
 
 // The ports: the sixteen added, 0 where the slot is empty; the bytes of each slot's partial SDU; whether each port waits.
 pub(crate) const PORT_IDS_AT: usize = 0;
@@ -95,7 +104,7 @@ const VERSION_WIDTH: usize = 1;
 
 // The first library's form has no version: its first octet is the state's number, at most 7. So versions count from 8, and no form
 // is taken for another.
-pub(crate) const STATE_VERSION: u8 = 8;
+pub(crate) const STATE_VERSION: u8 = 9;
 
 pub(crate) const ACTIVATION_AT: usize = VERSION_AT + VERSION_WIDTH;
 

@@ -7,9 +7,9 @@ ghost use Rattle.station.specs.Limits.{serialOctets, registrationOctets};
 ghost use Rattle.link.specs.Limits.{addedAllocs, mostOwed, keyOctets};
 ghost use Rattle.ports.specs.Limits.{slots, addedPorts};
 ghost use Rattle.layout.specs.Rows.{many};
-ghost use Rattle.layout.specs.Offsets.{idWidth, markWidth, lengthWidth, activationWidth, allocIdsWidth, allocsWidth, keyWidth, answerWidth, answersWidth, queueWidth, linkWidth, portIdsWidth, lengthsWidth, waitingWidth, portsWidth, stateBytes};
-ghost use Rattle.layout.specs.Layout.{activationBy, activationOf, responseBy, allocOf, portOf, markOf, owedOf};
-ghost use Rattle.layout.specs.Layout.{allocsOf, keyOf, queueOf, linkOf, portsOf, shown};
+ghost use Rattle.layout.specs.Offsets.{idWidth, markWidth, lengthWidth, activationWidth, allocIdsWidth, allocsWidth, keyWidth, answerWidth, answersWidth, queueWidth, profileWidth, profilesWidth, linkWidth, portIdsWidth, lengthsWidth, waitingWidth, portsWidth, stateBytes};
+ghost use Rattle.layout.specs.Layout.{activationBy, activationOf, responseBy, parityBy, allocOf, portOf, markOf, owedOf, profileOf};
+ghost use Rattle.layout.specs.Layout.{allocsOf, keyOf, queueOf, profilesOf, linkOf, portsOf, shown};
 use super::numbers;
 use super::offsets;
 use ids::AllocId;
@@ -19,6 +19,9 @@ use link::Allocs;
 use link::Key;
 use link::Link;
 use link::Owed;
+use link::Parity;
+use link::Profile;
+use link::Profiles;
 use link::Queue;
 use link::Response;
 use ploam::Completion;
@@ -68,6 +71,18 @@ fn response_by(number: u8) -> Response
     Response::Registration
 }
 
+fn parity_by(number: u8) -> Parity
+    ensures { λ r. ⌜ r ≡ parityBy number ⌝ }
+{
+    if number == 1 {
+        return Parity::Off;
+    }
+    if number == 2 {
+        return Parity::On;
+    }
+    Parity::NotReceived
+}
+
 fn activation_in(c: &[u8]) -> Activation
     requires { ⌜ length (now c) ≡ activationWidth ⌝ }
     ensures { λ r. ⌜ r ≡ activationOf (now (c .entry)) ⌝ }
@@ -88,6 +103,15 @@ fn owed_in(c: &[u8]) -> Owed
         response: response,
         seq_no: seq_no,
     }
+}
+
+fn profile_in(c: &[u8]) -> Profile
+    requires { ⌜ length (now c) ≡ profileWidth ⌝ }
+    ensures { λ r. ⌜ r ≡ profileOf (now (c .entry)) ⌝ }
+{
+    let number = numbers::number8(c);
+    let parity = parity_by(number);
+    Profile { parity: parity }
 }
 
 fn alloc_ids_in(c: &[u8]) -> [AllocId; 16]
@@ -175,6 +199,24 @@ fn answers_in(c: &[u8]) -> [Owed; 8]
     l
 }
 
+fn profiles_in(c: &[u8]) -> Profiles
+    requires { ⌜ length (now c) ≡ profilesWidth ⌝ }
+    ensures { λ r. ⌜ r ≡ profilesOf (now (c .entry)) ⌝ }
+{
+    let none = Profile {
+        parity: Parity::NotReceived,
+    };
+    let mut l = [none; 4];
+    let mut i: usize = 0;
+    while i < offsets::PROFILES {
+        let end = i + offsets::PROFILE_WIDTH;
+        let one = profile_in(&c[i..end]);
+        l[i] = one;
+        i += 1;
+    }
+    Profiles { held: l }
+}
+
 fn octets8(c: &[u8]) -> [u8; 8]
     requires { ⌜ length (now c) ≡ serialOctets ⌝ }
     ensures { λ r. ⌜ r ≡ now (c .entry) ⌝ }
@@ -246,13 +288,15 @@ fn link_in(c: &[u8]) -> Link
     let allocs = allocs_in(&c[offsets::ALLOCS_AT..offsets::DELAY_AT]);
     let delay = numbers::number32(&c[offsets::DELAY_AT..offsets::KEY_AT]);
     let key = key_in(&c[offsets::KEY_AT..offsets::QUEUE_AT]);
-    let owed = queue_in(&c[offsets::QUEUE_AT..offsets::LINK_WIDTH]);
+    let owed = queue_in(&c[offsets::QUEUE_AT..offsets::PROFILES_AT]);
+    let profiles = profiles_in(&c[offsets::PROFILES_AT..offsets::LINK_WIDTH]);
     Link {
         onu: onu,
         allocs: allocs,
         delay: delay,
         key: key,
         owed: owed,
+        profiles: profiles,
     }
 }
 

@@ -6,8 +6,8 @@ ghost use Rattle.xgem.specs.Writes.{put};
 ghost use Rattle.station.specs.Limits.{serialOctets, registrationOctets};
 ghost use Rattle.link.specs.Limits as limits;
 ghost use Rattle.layout.specs.Rows.{each};
-ghost use Rattle.layout.specs.Offsets.{activationWidth, allocIdsWidth, allocsWidth, keyWidth, answersWidth, queueWidth, linkWidth, portIdsWidth, lengthsWidth, waitingWidth, portsWidth, linkAt, stateBytes};
-ghost use Rattle.layout.specs.Layout.{timeLeft, responseNumber, activationOctets, allocOctets, portOctets, lengthOctets, markNumber, markOctets, owedOctets};
+ghost use Rattle.layout.specs.Offsets.{activationWidth, allocIdsWidth, allocsWidth, keyWidth, answersWidth, queueWidth, profilesWidth, linkWidth, portIdsWidth, lengthsWidth, waitingWidth, portsWidth, linkAt, stateBytes};
+ghost use Rattle.layout.specs.Layout.{timeLeft, responseNumber, parityNumber, activationOctets, allocOctets, portOctets, lengthOctets, markNumber, markOctets, owedOctets, profileOctets};
 ghost use Rattle.layout.specs.Layout.{allocsOctets, keyOctets, queueOctets, linkOctets, portsOctets, identityOctets, encoded};
 use super::numbers;
 use super::offsets;
@@ -17,6 +17,8 @@ use link::Allocs;
 use link::Key;
 use link::Link;
 use link::Owed;
+use link::Parity;
+use link::Profile;
 use link::Queue;
 use link::Response;
 use ports::Ports;
@@ -42,6 +44,16 @@ fn response_number(r: Response) -> u8
     match r {
         Response::Registration => 0,
         Response::Acknowledgement(completion) => completion.code() + 1,
+    }
+}
+
+fn parity_number(p: Parity) -> u8
+    ensures { λ n. ⌜ n ≡ parityNumber p ⌝ }
+{
+    match p {
+        Parity::NotReceived => 0,
+        Parity::Off => 1,
+        Parity::On => 2,
     }
 }
 
@@ -131,6 +143,20 @@ fn put_answers(l: [Owed; 8], out: &mut [u8])
     }
 }
 
+fn put_profiles(l: [Profile; 4], out: &mut [u8])
+    requires { ⌜ profilesWidth ≤ length (now out) ⌝ }
+    ensures { λ _. ⌜ (now (out .exit) ≡ put (now (out .entry)) (each profileOctets l)) × (length (each profileOctets l) ≡ profilesWidth) ⌝ }
+{
+    let mut i: usize = 0;
+    while i < offsets::PROFILES {
+        let one = l[i];
+        let parity = one.parity;
+        let number = parity_number(parity);
+        out[i] = number;
+        i += 1;
+    }
+}
+
 fn put_octets8(l: [u8; 8], out: &mut [u8])
     requires { ⌜ serialOctets ≤ length (now out) ⌝ }
     ensures { λ _. ⌜ (now (out .exit) ≡ put (now (out .entry)) l) × (length l ≡ serialOctets) ⌝ }
@@ -187,11 +213,14 @@ fn put_link(l: Link, out: &mut [u8])
     let allocs = l.allocs;
     let key = l.key;
     let owed = l.owed;
+    let profiles = l.profiles;
+    let held = profiles.held;
     numbers::put16(onu.0, out);
     put_allocs(allocs, &mut out[offsets::ALLOCS_AT..]);
     numbers::put32(l.delay, &mut out[offsets::DELAY_AT..]);
     put_key(key, &mut out[offsets::KEY_AT..]);
     put_queue(owed, &mut out[offsets::QUEUE_AT..]);
+    put_profiles(held, &mut out[offsets::PROFILES_AT..]);
 }
 
 fn put_ports(p: Ports, out: &mut [u8])

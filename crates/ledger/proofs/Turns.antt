@@ -1,4 +1,4 @@
--- The turns that the numbers held can take, each with what it writes into the ledger.
+-- The turns that what the plan looks at can take, each with what it writes into the ledger.
 -- Assumes nothing.
 use Prim.Native.Nat.{ℕ, _<_}
 use mathlib.Core.Path.{_≡_, _∙_, refl, sym, ap}

@@ -57,32 +57,32 @@ isShort Unreadable = false
 isShort Short = true
 
 -- a state is held only where there are octets enough
-pub held-long : (b : List ℕ) (r : StateRead) → r ≡ readOf b → r .contents ≡ Held → 208 ≤ length b
+pub held-long : (b : List ℕ) (r : StateRead) → r ≡ readOf b → r .contents ≡ Held → 212 ≤ length b
 unfolding readOf isShort
-held-long b r e h = go (leb 208 (length b)) refl
+held-long b r e h = go (leb 212 (length b)) refl
   where
-    go : (t : Bool) → leb 208 (length b) ≡ t → 208 ≤ length b
-    go true l = leb-true 208 (length b) l
+    go : (t : Bool) → leb 212 (length b) ≡ t → 212 ≤ length b
+    go true l = leb-true 212 (length b) l
     go false l = absurd (true≢false (ap isShort (sym (rw l at (ap (λ z. z .contents) e)) ∙ h)))
 
 -- ---- an input
 
-pub long-told : (input : List ℕ) → 135640 < length input → tooLong ≡ report input
+pub long-told : (input : List ℕ) → 135644 < length input → tooLong ≡ report input
 unfolding report
 long-told input h =
-    ap (λ b. cond b tooLong (stateReport (readOf input .contents) (readOf input .station) (drop 208 input))) (sym (lt-ltb 135640 (length input) h))
+    ap (λ b. cond b tooLong (stateReport (readOf input .contents) (readOf input .station) (drop 212 input))) (sym (lt-ltb 135644 (length input) h))
 
-module _ (input : List ℕ) (r : StateRead) (read : r ≡ readOf input) (fits : length input ≤ 135640) where
-  told-by : (k : Contents) → r .contents ≡ k → stateReport k (r .station) (drop 208 input) ≡ report input
+module _ (input : List ℕ) (r : StateRead) (read : r ≡ readOf input) (fits : length input ≤ 135644) where
+  told-by : (k : Contents) → r .contents ≡ k → stateReport k (r .station) (drop 212 input) ≡ report input
   unfolding report
   told-by k e =
-      ap (λ z. stateReport z (r .station) (drop 208 input)) (sym e)
-      ∙ ap (λ z. stateReport (z .contents) (z .station) (drop 208 input)) read
-      ∙ ap (λ b. cond b tooLong (stateReport (readOf input .contents) (readOf input .station) (drop 208 input))) (sym (le-ltb 135640 (length input) fits))
+      ap (λ z. stateReport z (r .station) (drop 212 input)) (sym e)
+      ∙ ap (λ z. stateReport (z .contents) (z .station) (drop 212 input)) read
+      ∙ ap (λ b. cond b tooLong (stateReport (readOf input .contents) (readOf input .station) (drop 212 input))) (sym (le-ltb 135644 (length input) fits))
 
-  pub held-told : r .contents ≡ Held → frameReport (r .station) (take (length input - 208) (drop 208 input)) ≡ report input
+  pub held-told : r .contents ≡ Held → frameReport (r .station) (take (length input - 212) (drop 212 input)) ≡ report input
   held-told e =
-      ap (frameReport (r .station)) (take-all (length input - 208) (drop 208 input) (simp length-drop (omega arith))) ∙ told-by Held e
+      ap (frameReport (r .station)) (take-all (length input - 212) (drop 212 input) (simp length-drop (omega arith))) ∙ told-by Held e
 
   pub unreadable-told : r .contents ≡ Unreadable → refusal StateOutOfRange ≡ report input
   unreadable-told e = told-by Unreadable e

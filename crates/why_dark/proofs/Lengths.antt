@@ -44,7 +44,7 @@ name-within : (k : ℕ) → length (nameOf k) ≤ 26
 unfolding nameOf
 name-within k =
     most-of 26 names
-    (omega arith, (omega arith, (omega arith, (omega arith, (omega arith, (omega arith, (omega arith, (omega arith, (omega arith, (omega arith, (omega arith, tt)))))))))))
+    (omega arith, (omega arith, (omega arith, (omega arith, (omega arith, (omega arith, (omega arith, (omega arith, (omega arith, (omega arith, (omega arith, (omega arith, tt))))))))))))
     k
 
 meaning-within : (answer : Answer) → length (meaning answer) ≤ 24
@@ -174,8 +174,8 @@ state-within Short s f = omega arith
 -- the text that is lent has room for all that is printed
 pub report-within : (input : List ℕ) → length (report input) ≤ 2047 * 128
 unfolding report
-report-within input = go (ltb (208 + 135432) (length input))
+report-within input = go (ltb (212 + 135432) (length input))
   where
-    go : (b : Bool) → length (cond b tooLong (stateReport (readOf input .contents) (readOf input .station) (drop 208 input))) ≤ 2047 * 128
+    go : (b : Bool) → length (cond b tooLong (stateReport (readOf input .contents) (readOf input .station) (drop 212 input))) ≤ 2047 * 128
     go true = omega arith
-    go false = state-within (readOf input .contents) (readOf input .station) (drop 208 input)
+    go false = state-within (readOf input .contents) (readOf input .station) (drop 212 input)

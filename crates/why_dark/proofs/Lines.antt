@@ -20,15 +20,15 @@ use Rattle.why_dark.specs.Report.{lineOf, structure, linesFrom, lines}
 past : (n k : ℕ) → k ≤ n → (n ≡ k → ⊥) → suc k ≤ n
 past n k h e = omega (arith, h, e)
 
--- there are eleven names
+-- there are twelve names
 module _ (n : ℕ) (a : n ≡ 0 → ⊥) (b : n ≡ 1 → ⊥) (c : n ≡ 2 → ⊥) (d : n ≡ 3 → ⊥) (e : n ≡ 4 → ⊥) (f : n ≡ 5 → ⊥) (g : n ≡ 6 → ⊥) (h : n ≡ 7 → ⊥)
-    (i : n ≡ 8 → ⊥) (j : n ≡ 9 → ⊥) (k : n ≡ 10 → ⊥) where
+    (i : n ≡ 8 → ⊥) (j : n ≡ 9 → ⊥) (k : n ≡ 10 → ⊥) (l : n ≡ 11 → ⊥) where
   pub nameless : nameOf n ≡ []
   unfolding nameOf
   nameless =
       let four : 4 ≤ n = past n 3 (past n 2 (past n 1 (past n 0 (omega arith) a) b) c) d in
       let eight : 8 ≤ n = past n 7 (past n 6 (past n 5 (past n 4 four e) f) g) h in
-      List·getD-eq-default names [] (past n 10 (past n 9 (past n 8 eight i) j) k)
+      List·getD-eq-default names [] (past n 11 (past n 10 (past n 9 (past n 8 eight i) j) k) l)
 
 -- ---- a structure by its number
 

@@ -9,7 +9,7 @@ use Rattle.text.specs.Decimals.{decimal}
 use Rattle.answers.specs.declared.Answer.{Answer}
 use Rattle.answers.specs.declared.Answer.the-variants.{Done, StateOutOfRange, FrameLengthUnfit, BufferTooShort, HlendUnreadable, HeaderTooLong, DelineationLost, PortOutOfRange, PortHeldOrNotHeld, SlotsTaken, KeyRefused, NotWritten}
 
--- the names in the request's words and order: each stands at its number
+-- the names in the requests' words: each stands at its number
 abbrev pub names : List (List ℕ)
 names =
     ascii "planned"
@@ -23,6 +23,7 @@ names =
     ∷ ascii "overlapping"
     ∷ ascii "after the fourth"
     ∷ ascii "a state that sends nothing"
+    ∷ ascii "profile not received"
     ∷ []
 
 unfoldable pub nameOf : ℕ → List ℕ
@@ -53,10 +54,10 @@ marked set name = cond set name []
 
 -- an input that is no state and frame
 abbrev pub tooShort : List ℕ
-tooShort = ascii "input too short: no state of 208 bytes\n"
+tooShort = ascii "input too short: no state of 212 bytes\n"
 
 abbrev pub tooLong : List ℕ
-tooLong = ascii "input too long: more than a state of 208 bytes and a frame of 135432\n"
+tooLong = ascii "input too long: more than a state of 212 bytes and a frame of 135432\n"
 
 -- a map of no structures
 abbrev pub noStructures : List ℕ

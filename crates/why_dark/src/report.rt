@@ -44,7 +44,7 @@ fn put_report(input: &[u8], text: &mut [u8], at: usize) -> usize
 {
     if MOST_INPUT < input.len() {
         return text::put_word(
-            b"input too long: more than a state of 208 bytes and a frame of 135432\n",
+            b"input too long: more than a state of 212 bytes and a frame of 135432\n",
             text,
             at,
         );
@@ -57,7 +57,7 @@ fn put_report(input: &[u8], text: &mut [u8], at: usize) -> usize
             put_frame(s, &input[STATE_BYTES..], text, at)
         }
         Contents::Unreadable => put_refusal(Answer::StateOutOfRange, text, at),
-        Contents::Short => { text::put_word(b"input too short: no state of 208 bytes\n", text, at) }
+        Contents::Short => { text::put_word(b"input too short: no state of 212 bytes\n", text, at) }
     }
 }
 

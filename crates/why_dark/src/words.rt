@@ -9,6 +9,7 @@ use entries::DBRU_WITHOUT_ROOM;
 use entries::FOREIGN;
 use entries::OVERLAPPING;
 use entries::PLANNED;
+use entries::PROFILE_NOT_RECEIVED;
 use entries::SEVENTEENTH;
 use entries::SILENT;
 use entries::START_TIME_UNFIT;
@@ -30,6 +31,7 @@ pub(crate) fn put_name(name: u8, text: &mut [u8], at: usize) -> usize
         OVERLAPPING => text::put_word(b"overlapping", text, at),
         AFTER_THE_LAST => text::put_word(b"after the fourth", text, at),
         SILENT => text::put_word(b"a state that sends nothing", text, at),
+        PROFILE_NOT_RECEIVED => text::put_word(b"profile not received", text, at),
         _ => at,
     }
 }

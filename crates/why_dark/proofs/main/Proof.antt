@@ -9,7 +9,7 @@ use Rattle.why_dark.proofs.main.Statement.{statement}
 use Rattle.why_dark.proofs.main.Tie as tie
 
 abbrev Inv-loop : tie.InvT-loop
-Inv-loop input₀ text₀ filled₀ turns₀ input text filled turns = (filled ≤ 135641) × (135641 ≡ length input) × (262016 ≡ length text)
+Inv-loop input₀ text₀ filled₀ turns₀ input text filled turns = (filled ≤ 135645) × (135645 ≡ length input) × (262016 ≡ length text)
 
 abbrev μ-loop : tie.MeasureT-loop
 μ-loop input₀ text₀ filled₀ turns₀ input text filled turns = turns

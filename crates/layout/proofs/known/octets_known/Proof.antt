@@ -62,6 +62,21 @@ answers-known-requires c κs = search needs
 returns-4 : tie.Need-returns-4
 returns-4 c = sym (rw (eq-eqb _ _ (c .before .before .before .before .before .before .before .before .before .if1 .left), sym (c .before .before .before .before .before .before .before .activation-known .ensures) ∙ not-false _ (c .before .before .before .before .before .before .if2 .left), sym (c .before .before .before .before .mark-known .ensures) ∙ not-false _ (c .before .before .before .if3 .left), sym (c .before .answers-known .ensures) ∙ not-true _ (c .if4 .taken)) at (whole (c .before .before .before .before .before .before .before .before .before .before .before)))
 
+sub-profiles-known : tie.Need-sub-profiles-known
+sub-profiles-known c = search needs
+
+part-profiles-known-start : tie.Need-part-profiles-known-start
+part-profiles-known-start c = search needs
+
+part-profiles-known-end : tie.Need-part-profiles-known-end
+part-profiles-known-end c = search needs
+
+profiles-known-requires : tie.Need-profiles-known-requires
+profiles-known-requires c κs = search needs
+
+returns-5 : tie.Need-returns-5
+returns-5 c = sym (rw (eq-eqb _ _ (c .before .before .before .before .before .before .before .before .before .before .before .before .if1 .left), sym (c .before .before .before .before .before .before .before .before .before .before .activation-known .ensures) ∙ not-false _ (c .before .before .before .before .before .before .before .before .before .if2 .left), sym (c .before .before .before .before .before .before .before .mark-known .ensures) ∙ not-false _ (c .before .before .before .before .before .before .if3 .left), sym (c .before .before .before .before .answers-known .ensures) ∙ not-false _ (c .before .before .before .if4 .left), sym (c .before .profiles-known .ensures) ∙ not-true _ (c .if5 .taken)) at (whole (c .before .before .before .before .before .before .before .before .before .before .before .before .before .before)))
+
 sub-marks-known : tie.Need-sub-marks-known
 sub-marks-known c = search needs
 
@@ -74,8 +89,8 @@ part-marks-known-end c = search needs
 marks-known-requires : tie.Need-marks-known-requires
 marks-known-requires c κs = search needs
 
-returns-5 : tie.Need-returns-5
-returns-5 c = sym (rw (eq-eqb _ _ (c .before .before .before .before .before .before .before .before .before .before .before .if1 .left), sym (c .before .before .before .before .before .before .before .before .before .activation-known .ensures) ∙ not-false _ (c .before .before .before .before .before .before .before .before .if2 .left), sym (c .before .before .before .before .before .before .mark-known .ensures) ∙ not-false _ (c .before .before .before .before .before .if3 .left), sym (c .before .before .before .answers-known .ensures) ∙ not-false _ (c .before .before .if4 .left), sym (c .marks-known .ensures)) at (whole (c .before .before .before .before .before .before .before .before .before .before .before .before .before)))
+returns-6 : tie.Need-returns-6
+returns-6 c = sym (rw (eq-eqb _ _ (c .before .before .before .before .before .before .before .before .before .before .before .before .before .before .if1 .left), sym (c .before .before .before .before .before .before .before .before .before .before .before .before .activation-known .ensures) ∙ not-false _ (c .before .before .before .before .before .before .before .before .before .before .before .if2 .left), sym (c .before .before .before .before .before .before .before .before .before .mark-known .ensures) ∙ not-false _ (c .before .before .before .before .before .before .before .before .if3 .left), sym (c .before .before .before .before .before .before .answers-known .ensures) ∙ not-false _ (c .before .before .before .before .before .if4 .left), sym (c .before .before .before .profiles-known .ensures) ∙ not-false _ (c .before .before .if5 .left), sym (c .marks-known .ensures)) at (whole (c .before .before .before .before .before .before .before .before .before .before .before .before .before .before .before .before)))
 
 pub octets-known-spec : {M : Type 1} → statement M
 octets-known-spec =
@@ -96,8 +111,13 @@ octets-known-spec =
     part-answers-known-end
     answers-known-requires
     returns-4
+    sub-profiles-known
+    part-profiles-known-start
+    part-profiles-known-end
+    profiles-known-requires
+    returns-5
     sub-marks-known
     part-marks-known-start
     part-marks-known-end
     marks-known-requires
-    returns-5)
+    returns-6)

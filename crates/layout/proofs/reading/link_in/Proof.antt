@@ -65,6 +65,18 @@ part-queue-in-end c = search needs
 queue-in-requires : tie.Need-queue-in-requires
 queue-in-requires c κs = search needs
 
+sub-profiles-in : tie.Need-sub-profiles-in
+sub-profiles-in c = search needs
+
+part-profiles-in-start : tie.Need-part-profiles-in-start
+part-profiles-in-start c = search needs
+
+part-profiles-in-end : tie.Need-part-profiles-in-end
+part-profiles-in-end c = search needs
+
+profiles-in-requires : tie.Need-profiles-in-requires
+profiles-in-requires c κs = search needs
+
 returns : tie.Need-returns
 unfolding linkOf
 returns c = cc
@@ -93,4 +105,8 @@ link-in-spec =
     part-queue-in-start
     part-queue-in-end
     queue-in-requires
+    sub-profiles-in
+    part-profiles-in-start
+    part-profiles-in-end
+    profiles-in-requires
     returns)

@@ -75,6 +75,12 @@ slice-aggregate-put-word-11 c = search needs
 put-word-requires-11 : tie.Need-put-word-requires-11
 put-word-requires-11 c κs = search needs
 
+slice-aggregate-put-word-12 : tie.Need-slice-aggregate-put-word-12
+slice-aggregate-put-word-12 c = search needs
+
+put-word-requires-12 : tie.Need-put-word-requires-12
+put-word-requires-12 c κs = search needs
+
 same-length : tie.Need-same-length
 same-length c = search needs
 
@@ -152,8 +158,15 @@ returns-11 : tie.Need-returns-11
 unfolding nameOf
 returns-11 c = c .before .before .put-word11 .ensures ∙ ap (added _ _) (ap nameOf (sym (c .before .before .before .before .before .match .keys11)))
 
+same-length-12 : tie.Need-same-length-12
+same-length-12 c = search needs
+
 returns-12 : tie.Need-returns-12
-returns-12 c = added-none (record { text = _; place = _ }) ∙ ap (added _ _) (sym (nameless _ (c .match .rest .0 .0 .0 .0 .0 .0 .0 .0 .0 .0 .1) (c .match .rest .0 .0 .0 .0 .0 .0 .0 .0 .0 .1) (c .match .rest .0 .0 .0 .0 .0 .0 .0 .0 .1) (c .match .rest .0 .0 .0 .0 .0 .0 .0 .1) (c .match .rest .0 .0 .0 .0 .0 .0 .1) (c .match .rest .0 .0 .0 .0 .0 .1) (c .match .rest .0 .0 .0 .0 .1) (c .match .rest .0 .0 .0 .1) (c .match .rest .0 .0 .1) (c .match .rest .0 .1) (c .match .rest .1)))
+unfolding nameOf
+returns-12 c = c .before .before .put-word12 .ensures ∙ ap (added _ _) (ap nameOf (sym (c .before .before .before .before .before .match .keys12)))
+
+returns-13 : tie.Need-returns-13
+returns-13 c = added-none (record { text = _; place = _ }) ∙ ap (added _ _) (sym (nameless _ (c .match .rest .0 .0 .0 .0 .0 .0 .0 .0 .0 .0 .0 .1) (c .match .rest .0 .0 .0 .0 .0 .0 .0 .0 .0 .0 .1) (c .match .rest .0 .0 .0 .0 .0 .0 .0 .0 .0 .1) (c .match .rest .0 .0 .0 .0 .0 .0 .0 .0 .1) (c .match .rest .0 .0 .0 .0 .0 .0 .0 .1) (c .match .rest .0 .0 .0 .0 .0 .0 .1) (c .match .rest .0 .0 .0 .0 .0 .1) (c .match .rest .0 .0 .0 .0 .1) (c .match .rest .0 .0 .0 .1) (c .match .rest .0 .0 .1) (c .match .rest .0 .1) (c .match .rest .1)))
 
 pub put-name-spec : {M : Type 1} → statement M
 put-name-spec =
@@ -181,6 +194,8 @@ put-name-spec =
     put-word-requires-10
     slice-aggregate-put-word-11
     put-word-requires-11
+    slice-aggregate-put-word-12
+    put-word-requires-12
     same-length
     returns
     same-length-2
@@ -203,4 +218,6 @@ put-name-spec =
     returns-10
     same-length-11
     returns-11
-    returns-12)
+    same-length-12
+    returns-12
+    returns-13)
