@@ -45,11 +45,11 @@ use Rattle.demands.proofs.Activated.{signed, signed-length, signed-acts
 
 -- ---- the message
 
-abbrev parityOctet : Bool → ℕ
+abbrev pub parityOctet : Bool → ℕ
 parityOctet true = 1
 parityOctet false = 0
 
-unfoldable telling : Bool → List ℕ
+unfoldable pub telling : Bool → List ℕ
 telling parity = 3 ∷ 255 ∷ 1 ∷ 1 ∷ 0 ∷ parityOctet parity ∷ replicate 34 0
 
 abbrev pub known : Bool → Profiles
