@@ -35,6 +35,7 @@ use Rattle.link.specs.declared.Owed.{Owed}
 use Rattle.link.specs.declared.Response.the-variants.{Acknowledgement}
 use Rattle.ports.specs.declared.Ports.{Ports}
 use Rattle.link.specs.Link.{noKey, noAllocs, noneOwed, addAlloc, owe}
+use Rattle.link.specs.Profiles.{noProfiles}
 use Rattle.ports.specs.Ports.{noPorts, clearManagement}
 use Rattle.timing.specs.Timing.{frameEnd}
 use Rattle.effects.specs.declared.Change.the-variants.{Range}
@@ -56,7 +57,7 @@ use Rattle.demands.proofs.RefutingRuns.{serial, registration, memory, b
 unfoldable pub signed : List ℕ → List ℕ
 signed octets = octets ++ micOf defaultKey Downstream octets
 
-signed-length : (octets : List ℕ) → length octets ≡ coveredOctets → length (signed octets) ≡ messageOctets
+pub signed-length : (octets : List ℕ) → length octets ≡ coveredOctets → length (signed octets) ≡ messageOctets
 unfolding signed
 signed-length octets h = length-append octets (micOf defaultKey Downstream octets) ∙ ap₂ _+_ h (mic-length defaultKey (covered Downstream octets))
 
@@ -72,7 +73,7 @@ signed-whole : (octets : List ℕ) → length octets ≡ coveredOctets → recei
 unfolding received
 signed-whole octets h = ap (λ (n : ℕ). cond (ltb n messageOctets) Short (Whole (messageOf (signed octets)))) (signed-length octets h)
 
-signed-acts : (s : Station) (octets : List ℕ) → length octets ≡ coveredOctets → s .link .key .held ≡ false
+pub signed-acts : (s : Station) (octets : List ℕ) → length octets ≡ coveredOctets → s .link .key .held ≡ false
     → receive s (signed octets) ≡ act s true (messageOf (signed octets))
 unfolding receive
 signed-acts s octets h e =
@@ -109,7 +110,7 @@ stationWith activation allocs ports =
       activation = activation;
       serial = serial;
       registration = registration;
-      link = record { onu = record { 0 = 5 }; allocs = allocs; delay = 0; key = noKey; owed = owe (owe noneOwed (okTo 2)) (okTo 3) };
+      link = record { onu = record { 0 = 5 }; allocs = allocs; delay = 0; key = noKey; owed = owe (owe noneOwed (okTo 2)) (okTo 3); profiles = noProfiles };
       ports = ports;
       carried = 0;
     }

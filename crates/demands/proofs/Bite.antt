@@ -1,5 +1,5 @@
 -- The demands bite: no engine that the paper shuts out by name meets them. Each is refuted by a run from power-on: of a bare frame, or of
--- that and one with two discovery grants. FirstMessage, FirstXgem and Forgets have those whose runs go to O5.
+-- that, one with a Profile, and one with two discovery grants. FirstMessage, FirstXgem and Forgets have those whose runs go to O5.
 -- An engine that refuses all meets demand 3 to the letter: that demand is about what is sent and about frames answered 0 or 6,
 -- and it sends nothing and answers no frame so. Demand 1 shuts it out: refusals are exact.
 -- Assumes nothing.
@@ -24,9 +24,10 @@ use Rattle.payload.specs.Deliveries.{deliveriesOf}
 use Rattle.invariants.proofs.InRange.{sound-in-range, power-on-sound}
 use Rattle.ledger.specs.Events.{stationOf}
 use Rattle.ledger.specs.Ledger.{ledger}
-use Rattle.ledger.specs.Promises.{Holds}
+use Rattle.ledger.specs.Profiles.{profileIn}
+use Rattle.ledger.specs.Promises.{Holds, HoldsProfiles}
 use Rattle.ledger.specs.Plan.{ownOf, Ours}
-use Rattle.ledger.proofs.Runs.{ledger-exact}
+use Rattle.ledger.proofs.Runs.{ledger-exact, profiles-exact}
 use Rattle.ledger.proofs.Plan.{always-ours}
 use Rattle.frame.specs.Given.{Arrival, Lent}
 use Rattle.frame.specs.Frame.{FrameLeft, noCounts, plannedIn, payloadIn, done, handled, frameLeft}
@@ -41,7 +42,8 @@ use Rattle.demands.specs.Wrong.{withPlan, readBy, refusesAll, fixedPlan,
 use Rattle.demands.proofs.Runs.{Kept, call-kept, started}
 use Rattle.demands.proofs.GivenIn.{given-in}
 use Rattle.demands.proofs.RefutingRuns.{serial, registration, fresh, memory, buffers, lent, arrives, Leads, bare, noEntries, reads-bare, searching, left-bare, bare-leads}
-use Rattle.demands.proofs.TwoGrants.{two, twoEntries, grantAt, seriesFrom, reads-two, left-two, answer-two, two-planned, sends-both}
+use Rattle.demands.proofs.Told.{told, oneMessage, reads-told, told-leads, left-told, counts-told, dark-told}
+use Rattle.demands.proofs.TwoGrants.{ready, two, twoEntries, grantAt, seriesFrom, reads-two, left-two, answer-two, two-planned, sends-both}
 
 -- two stations, one serial number
 pub one-serial-number : Demand1 oneSerialNumber → ⊥
@@ -92,6 +94,9 @@ module _ (serial registration memory : List ℕ) (calls : List Call) where
   refused-held : Holds (ledger (powerOn serial registration) (st .history)) (st .station)
   refused-held = subst (Holds (ledger (powerOn serial registration) (st .history))) refused-same (ledger-exact serial registration (st .history))
 
+  refused-profiles : HoldsProfiles (profileIn (powerOn serial registration) (st .history)) (st .station)
+  refused-profiles = subst (HoldsProfiles (profileIn (powerOn serial registration) (st .history))) refused-same (profiles-exact serial registration (st .history))
+
   refused-ours : Ours (ledger (powerOn serial registration) (st .history)) (ownOf (st .station))
   refused-ours = subst (λ (s : Station). Ours (ledger (powerOn serial registration) (st .history)) (ownOf s)) refused-same (always-ours serial registration (st .history))
 
@@ -99,6 +104,7 @@ pub refuses-all-in-silence : Demand3 refusesAll
 refuses-all-in-silence =
     record {
       held = refused-held;
+      profiles = refused-profiles;
       ours = refused-ours;
       given = λ serial registration memory calls n h. given-in refusesAll (powerOn serial registration) memory calls n (refused-held serial registration memory calls n .1 h);
       plans = λ serial registration memory calls a b answered. absurd (false≢true answered);
@@ -149,22 +155,27 @@ invented-bytes d =
 
 -- ---- the second frame, of two series
 
-this-done : answerNumber (frameLeft searching (arrives two) lent .outcome .answer) ≡ 0
+this-done : answerNumber (frameLeft ready (arrives two) lent .outcome .answer) ≡ 0
 this-done = ap (λ (x : FrameLeft). answerNumber (x .outcome .answer)) (sym left-two) ∙ answer-two
 
-records-two : frameLeft searching (arrives two) lent .counts .records ≡ 2
+records-two : frameLeft ready (arrives two) lent .counts .records ≡ 2
 unfolding handled done seriesFrom
 records-two = ap (λ (x : FrameLeft). x .counts .records) (sym left-two) ∙ ap records two-planned
 
-dark-bare : sendings (frameLeft fresh (arrives bare) lent) ≡ []
+pub dark-bare : sendings (frameLeft fresh (arrives bare) lent) ≡ []
 dark-bare = ap₂ (λ (c : Counts) (p : List ℕ). laser (c .records) p) counts-bare plan-bare
 
 -- the laser finds no head in the plan as it was lent
 pub writes-nothing : Demand3 writesNothing → ⊥
 unfolding buffers opens granted sending seriesFrom grantAt
 writes-nothing d =
-    let e = sends-both (λ s a l. record { outcome = frameLeft s a l .outcome; counts = frameLeft s a l .counts; lent = l }) d (record { answer = bare-leads .answer; station = bare-leads .station; memory = refl })
-    (ap (λ (c : Counts). laser (c .records) (lent .plan)) counts-bare) this-done in
+    let e = sends-both (λ s a l. record { outcome = frameLeft s a l .outcome; counts = frameLeft s a l .counts; lent = l }) d
+    (record {
+      starts = record { answer = bare-leads .answer; station = bare-leads .station; memory = refl };
+      dark = ap (λ (c : Counts). laser (c .records) (lent .plan)) counts-bare;
+      hears = record { answer = told-leads false .answer; station = told-leads false .station; memory = refl };
+      unlit = ap (λ (c : Counts). laser (c .records) (lent .plan)) (counts-told false);
+    }) this-done in
     let n : _≡_ {A = ℕ} 0 2 = ap (λ (k : ℕ). length (laser k (buffers .plan))) (sym records-two) ∙ ap length e in
     omega (arith, n)
 
@@ -172,14 +183,27 @@ first-bare : readBy (readHlend bare) (λ h. firstStructureIn h fresh (arrives ba
 unfolding bare noEntries handled plannedIn
 first-bare = ap (λ (r : Found Hlend). readBy r (λ h. firstStructureIn h fresh (arrives bare) lent) (frameLeft fresh (arrives bare) lent)) reads-bare ∙ left-bare
 
+first-told
+    : readBy (readHlend (told false)) (λ h. firstStructureIn h searching (arrives (told false)) lent) (frameLeft searching (arrives (told false)) lent)
+    ≡ frameLeft searching (arrives (told false)) lent
+unfolding told oneMessage handled plannedIn
+first-told =
+    ap (λ (r : Found Hlend). readBy r (λ h. firstStructureIn h searching (arrives (told false)) lent) (frameLeft searching (arrives (told false)) lent)) (reads-told false)
+    ∙ left-told false
+
 -- the second series is neither planned nor left out for a fact
 pub first-structure : Demand3 firstStructure → ⊥
 unfolding buffers opens granted sending seriesFrom grantAt seriesNumbers headFlags burstFlags handled done
 first-structure d =
-    let goes : readBy (readHlend two) (λ h. firstStructureIn h searching (arrives two) lent) (frameLeft searching (arrives two) lent) ≡ firstStructureIn twoEntries searching (arrives two) lent
-    = ap (λ (r : Found Hlend). readBy r (λ h. firstStructureIn h searching (arrives two) lent) (frameLeft searching (arrives two) lent)) reads-two in
-    let e = sends-both (λ s a l. readBy (readHlend (a .octets)) (λ h. firstStructureIn h s a l) (frameLeft s a l)) d (subst (λ (x : FrameLeft). Leads x searching) (sym first-bare) bare-leads)
-    (ap sendings first-bare ∙ dark-bare) (ap (λ (x : FrameLeft). answerNumber (x .outcome .answer)) goes ∙ answer-two) in
+    let goes : readBy (readHlend two) (λ h. firstStructureIn h ready (arrives two) lent) (frameLeft ready (arrives two) lent) ≡ firstStructureIn twoEntries ready (arrives two) lent
+    = ap (λ (r : Found Hlend). readBy r (λ h. firstStructureIn h ready (arrives two) lent) (frameLeft ready (arrives two) lent)) reads-two in
+    let e = sends-both (λ s a l. readBy (readHlend (a .octets)) (λ h. firstStructureIn h s a l) (frameLeft s a l)) d
+    (record {
+      starts = subst (λ (x : FrameLeft). Leads x searching) (sym first-bare) bare-leads;
+      dark = ap sendings first-bare ∙ dark-bare;
+      hears = subst (λ (x : FrameLeft). Leads x ready) (sym first-told) (told-leads false);
+      unlit = ap sendings first-told ∙ dark-told false;
+    }) (ap (λ (x : FrameLeft). answerNumber (x .outcome .answer)) goes ∙ answer-two) in
     let n : _≡_ {A = ℕ} 1 2
     = ap (λ (l : List Series). length (laser (records (take 1 l)) (written (take 1 l) (buffers .plan)))) (sym two-planned) ∙ ap (λ (x : FrameLeft). length (sendings x)) (sym goes) ∙ ap length e in
     omega (arith, n)

@@ -1,4 +1,4 @@
--- Along every run of this engine nothing of what a head end gave is held in O1, O2-3 and O7.
+-- Along every run of this engine nothing of what a head end gave is held in O1 and O7, and in O2-3 profiles at most.
 -- Assumes nothing.
 use Prim.Native.Nat.{ℕ}
 use mathlib.Core.Path.{subst}

@@ -14,10 +14,13 @@ pub mod Forgotten
 pub mod Keeps
 pub mod Names
 pub mod RefutingRuns
+pub mod Activated
+pub mod Told
 pub mod TwoGrants
 pub mod Bite
 pub mod WrongNames
-pub mod Activated
 pub mod FirstMessage
 pub mod FirstXgem
 pub mod Forgets
+pub mod NoParity
+pub mod KeptProfiles

@@ -16,6 +16,7 @@ use Rattle.plan.specs.Laser.{burstOf, burstsOf}
 use Rattle.bwmap.proofs.Kept.{planned-ours, every-series-accounted}
 use Rattle.plan.proofs.ReadBack.{records-written, laser-obeys}
 use Rattle.ledger.specs.Events.{Event, stationOf}
+use Rattle.ledger.specs.Promises.{ExactProfiles}
 use Rattle.ledger.specs.Plan.{ownAt, NumberOf}
 use Rattle.frame.specs.Given.{Arrival, Lent}
 use Rattle.downstream.specs.Partitions.{mapOf}
@@ -26,7 +27,7 @@ use Rattle.demands.specs.Demand3.{sendings, Numbered, Planned, AllPlanne
 
 -- ---- the series of ours, number by number
 
-module _ (first : Station) (h : List Event) (m : List ℕ) (n : NumberOf first h) where
+module _ (first : Station) (h : List Event) (m : List ℕ) (n : NumberOf first h) (x : ExactProfiles first h) where
   follow : (i : ℕ) (l : List Allocation) → Follow (ownAt first h) m i l → Numbered first h l
   follow i [] f = tt
   follow i (a ∷ l) (lies, mine, rest) = (n .identified (entryAt m i) a true mine, n .unidentified (entryAt m i) a true mine, follow (i + 1) l rest)
@@ -39,6 +40,7 @@ module _ (first : Station) (h : List Event) (m : List ℕ) (n : NumberOf first h
         lies = p;
         sends = p .head .sends;
         numbers = (n .identified (entryAt m (p .at)) (s .head) false (p .head), n .unidentified (entryAt m (p .at)) (s .head) false (p .head), follow (p .at + 1) (s .more) (p .more));
+        parity = p .parity ∙ x (s .head .profile);
       }
 
   all-planned : (l : List Series) → Every (SeriesIn (ownAt first h) m) l → AllPlanned first h m (burstsOf l)
@@ -55,7 +57,7 @@ pub handled-records
 unfolding handled done plannedIn
 handled-records s arrival lent hl = records-written (plannedOf (ownOf s) (mapOf hl (arrival .octets)) (s .carried)) (lent .plan)
 
-module _ (first : Station) (h : List Event) (arrival : Arrival) (lent : Lent) (n : NumberOf first h) where
+module _ (first : Station) (h : List Event) (arrival : Arrival) (lent : Lent) (n : NumberOf first h) (x : ExactProfiles first h) where
   -- what the laser sends is what was planned
   handled-sent : (hl : Hlend) → sendings (handled (stationOf first h) hl arrival lent) ≡ burstsOf (plannedOf (ownAt first h) (mapOf hl (arrival .octets)) (stationOf first h .carried))
   unfolding handled done plannedIn
@@ -67,7 +69,7 @@ module _ (first : Station) (h : List Event) (arrival : Arrival) (lent : Lent) (n
       let m = mapOf hl (arrival .octets) in
       let l = plannedOf own m (stationOf first h .carried) in
       record {
-        each = subst (AllPlanned first h m) (sym (handled-sent hl)) (all-planned first h m n l (planned-ours own m (stationOf first h .carried)));
+        each = subst (AllPlanned first h m) (sym (handled-sent hl)) (all-planned first h m n x l (planned-ours own m (stationOf first h .carried)));
         planned = l;
         account = every-series-accounted own m (stationOf first h .carried);
         are = handled-sent hl;

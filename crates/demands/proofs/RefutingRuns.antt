@@ -30,7 +30,7 @@ use Rattle.series.specs.declared.Around.{Around}
 use Rattle.series.specs.Limits.{wordsABurst, burstsAFrame}
 use Rattle.series.specs.Series.{Series, standings, seriesOf, burstWords, outset, beyond}
 use Rattle.plan.specs.Limits.{planNumbers}
-use Rattle.bwmap.specs.Promises.{Account, done as none-left, plans, too-long, overlapping, after-the-last}
+use Rattle.bwmap.specs.Promises.{Unreceived, Account, done as none-left, plans, not-received, too-long, overlapping, after-the-last}
 use Rattle.plan.specs.Laser.{Sending, burstsOf}
 use Rattle.invariants.proofs.InRange.{sound-in-range, power-on-sound, enter-sound}
 use Rattle.ledger.specs.Events.{stationOf}
@@ -104,7 +104,7 @@ hlendIn short other = other
 
 module _ (call : Station → Arrival → Lent → FrameLeft) (lose : Station → Outcome) where
   module _ (st : Progress) (right own : Station) (k : Stands st right own) (f : List ℕ) where
-    same : call (st .station) (arrives f) (lend st buffers) ≡ call own (arrives f) lent
+    pub same : call (st .station) (arrives f) (lend st buffers) ≡ call own (arrives f) lent
     same = ap₂ (λ (s : Station) (m : List ℕ). call s (arrives f) (lending m (buffers .plan) (buffers .replies) (buffers .deliveries))) (k .station) (k .memory)
 
     -- a frame that is answered 0, as it should be
@@ -153,19 +153,20 @@ module _ (call : Station → Arrival → Lent → FrameLeft) (lose : Station →
 
 -- ---- the account
 
--- a series that is not too long, does not overlap and comes before the bound is planned
+-- a series whose profile was received, that is not too long, does not overlap and comes before the bound is planned
 pub record Next (around : Around) (s : Series) (l p : List Series) : Type 0 where
   pub rest : List Series
   pub is : p ≡ s ∷ rest
   pub account : Account (beyond around s) l rest
 
 pub next-planned
-    : {around : Around} {s : Series} {l p : List Series} → burstWords s ≤ wordsABurst → around .end ≤ s .head .start → around .bursts < burstsAFrame
+    : {around : Around} {s : Series} {l p : List Series} → (Unreceived s → ⊥) → burstWords s ≤ wordsABurst → around .end ≤ s .head .start → around .bursts < burstsAFrame
     → Account around (s ∷ l) p → Next around s l p
-next-planned a b c (plans because rest) = record { rest = _; is = refl; account = rest }
-next-planned a b c (too-long because rest) = absurd (omega arith)
-next-planned a b c (overlapping because rest) = absurd (omega arith)
-next-planned a b c (after-the-last because rest) = absurd (omega arith)
+next-planned u a b c (plans because rest) = record { rest = _; is = refl; account = rest }
+next-planned u a b c (not-received because rest) = absurd (u because)
+next-planned u a b c (too-long because rest) = absurd (omega (arith, because .1))
+next-planned u a b c (overlapping because rest) = absurd (omega (arith, because .2))
+next-planned u a b c (after-the-last because rest) = absurd (omega (arith, because .3))
 
 pub none-planned : {around : Around} {p : List Series} → Account around [] p → p ≡ []
 none-planned none-left = refl

@@ -10,7 +10,7 @@ use Rattle.bch.specs.Code.{remainderFrom}
 use Rattle.flips.proofs.FlipRule.{flips}
 use Rattle.xgtc.specs.Layouts.{hlendOf}
 use Rattle.xgem.specs.Reads.{taken}
-use Rattle.bwmap.proofs.Sums.{sum-8, sum-9, sum-10, sum-11}
+use Rattle.bwmap.proofs.Sums.{sum-8, sum-9, sum-10, sum-11, sum-parity}
 use Rattle.invariants.proofs.Sums.{sum-12}
 use Rattle.demands.specs.Sums.{Sums, hlendGives}
 
@@ -33,4 +33,5 @@ sums =
       sum-10 = sum-10;
       sum-11 = sum-11;
       sum-12 = sum-12;
+      sum-parity = sum-parity;
     }

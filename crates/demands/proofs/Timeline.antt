@@ -2,7 +2,7 @@
 -- Assumes nothing.
 use Prim.Native.Nat.{ℕ, _+_, _-_, _*_, _≤_}
 use native.Mathlib.Omega.{arith}
-use mathlib.Core.Path.{_≡_, _∙_, refl, sym, ap, ap₂}
+use mathlib.Core.Path.{_≡_, _∙_, refl, sym, ap, ap₂, subst}
 use mathlib.Core.Bool.{Bool, true, false, cond}
 use mathlib.Core.List.{List, [], _∷_, _++_}
 use Rattle.xgtc.specs.declared.allocation.Allocation.{Allocation}
@@ -15,13 +15,21 @@ use Rattle.station.specs.Limits.{upstreamWords}
 use Rattle.timing.specs.Timing.{silence, lostTime, unreadTime}
 use Rattle.messages.specs.Receiving.{receiveAll, messagesIn}
 use Rattle.series.specs.Limits.{ploamuWords}
-use Rattle.series.specs.Series.{Series, grants, wordsOf, burstWords, lastEnd, plannedOf}
+use Rattle.link.specs.declared.Parity.{Parity}
+use Rattle.link.specs.Profiles.{parityAt}
+use Rattle.entries.specs.declared.Own.{Own}
+use Rattle.series.specs.Series.{Series, grants, wordsOf, bareWords, sentWords, burstWords, lastEnd, plannedOf}
+use Rattle.bwmap.specs.Promises.{SeriesIn, Every}
+use Rattle.bwmap.proofs.Kept.{planned-ours}
 use Rattle.plan.specs.Laser.{grantsOf, burstOf, burstsOf}
 use Rattle.bwmap.specs.Upstream.{FrameTime, dark, Burst, finish, carry, bursts, takers}
 use Rattle.bwmap.specs.Upstream as upstream
 use Rattle.bwmap.proofs.Once.{times-apart, at-most-one}
 use Rattle.plan.proofs.ReadBack.{laser-obeys}
 use Rattle.invariants.proofs.InRange.{Sound}
+use Rattle.ledger.specs.Events.{Event}
+use Rattle.ledger.specs.Profiles.{profileIn}
+use Rattle.ledger.specs.Promises.{HoldsProfiles, ExactProfiles}
 use Rattle.frame.specs.Given.{Arrival, Lent}
 use Rattle.downstream.specs.Partitions.{mapOf, messagesOf}
 use Rattle.station.specs.States.{isRanging}
@@ -42,20 +50,27 @@ granted-is : (l : List Allocation) → granted (grantsOf l) ≡ grants l
 granted-is [] = refl
 granted-is (a ∷ l) = ap (λ (n : ℕ). a .grant + n) (granted-is l)
 
-words-are : (s : Series) → demand.wordsOf (burstOf s) ≡ burstWords s
+bare-are : (s : Series) → demand.bareWords (burstOf s) ≡ bareWords s
 unfolding wordsOf
-words-are s = ap (λ (n : ℕ). 1 + cond (s .head .ploamu) ploamuWords 0 + (s .head .grant + n) + 1) (granted-is (s .more))
+bare-are s = ap (λ (n : ℕ). 1 + cond (s .head .ploamu) ploamuWords 0 + (s .head .grant + n) + 1) (granted-is (s .more))
 
-placed-are : (time : ℕ) (l : List Series) → placed time (burstsOf l) ≡ bursts (upstreamWords * time) l
-placed-are time [] = refl
-placed-are time (s ∷ l) = ap₂ (λ (n : ℕ) (r : List Burst). record { from = upstreamWords * time + s .head .start; size = n } ∷ r) (words-are s) (placed-are time l)
+-- where its parity is what is known of its head's profile
+words-are : (known : ℕ → Parity) (s : Series) → s .parity ≡ known (s .head .profile) → demand.wordsOf known (burstOf s) ≡ burstWords s
+words-are known s e = ap₂ sentWords (sym e) (bare-are s)
+
+module _ (known : ℕ → Parity) (own : Own) (m : List ℕ) (x : (i : ℕ) → parityAt (own .profiles) i ≡ known i) where
+  placed-are : (time : ℕ) (l : List Series) → Every (SeriesIn own m) l → placed known time (burstsOf l) ≡ bursts (upstreamWords * time) l
+  placed-are time [] e = refl
+  placed-are time (s ∷ l) e =
+      ap₂ (λ (n : ℕ) (r : List Burst). record { from = upstreamWords * time + s .head .start; size = n } ∷ r)
+      (words-are known s (e .0 .parity ∙ x (s .head .profile))) (placed-are time l (e .1))
 
 -- ---- what a call does to time and to the words carried over
 
 data Step (first : Station) (st : Progress) (c : Call) : Type 0 where
-  still : burstsBy lingbarrow st c ≡ [] → after lingbarrow first st c .times ≡ st .times
+  still : burstsBy lingbarrow first st c ≡ [] → after lingbarrow first st c .times ≡ st .times
       → after lingbarrow first st c .station .carried ≡ st .station .carried → Step first st c
-  passed : (t : FrameTime) → burstsBy lingbarrow st c ≡ bursts (upstreamWords * st .times) (upstream.sent (st .station .carried) t)
+  passed : (t : FrameTime) → burstsBy lingbarrow first st c ≡ bursts (upstreamWords * st .times) (upstream.sent (st .station .carried) t)
       → after lingbarrow first st c .times ≡ st .times + 1
       → after lingbarrow first st c .station .carried ≡ carry (st .station .carried) t → Step first st c
 
@@ -82,7 +97,8 @@ lost-carried : (s : Station) → lostTime s .carried ≡ 0
 unfolding lostTime silence
 lost-carried s = refl
 
-module _ (first : Station) (st : Progress) (arrival : Arrival) (b : Buffers) (k : Sound (st .station)) where
+module _ (first : Station) (st : Progress) (arrival : Arrival) (b : Buffers) (k : Sound (st .station))
+    (x : HoldsProfiles (profileIn first (st .history)) (st .station)) where
   left : FrameLeft
   left = frameLeft (st .station) arrival (lend st b)
 
@@ -97,21 +113,25 @@ module _ (first : Station) (st : Progress) (arrival : Arrival) (b : Buffers) (k 
   unfolding left
   still-here n e p answer q =
       let z : st .times + 0 ≡ st .times = omega arith in
-      still (ap (λ (x : FrameLeft). placed (st .times) (sendings x)) q) (number-passes n e ∙ ap (λ (x : Bool). st .times + another x) p ∙ z)
+      still (ap (λ (x : FrameLeft). placed (profileIn first (st .history)) (st .times) (sendings x)) q) (number-passes n e ∙ ap (λ (x : Bool). st .times + another x) p ∙ z)
       (ap (λ (x : FrameLeft). x .outcome .station .carried) q)
 
   -- a time passes in which nothing is sent
   unlit : (n : ℕ) → number ≡ n → passes n ≡ true → (answer : Answer) → left ≡ unread answer (st .station) (lend st b) → Step first st (frame arrival b)
   unfolding left
   unlit n e p answer q =
-      passed dark (ap (λ (x : FrameLeft). placed (st .times) (sendings x)) q) (number-passes n e ∙ ap (λ (x : Bool). st .times + another x) p)
+      passed dark (ap (λ (x : FrameLeft). placed (profileIn first (st .history)) (st .times) (sendings x)) q) (number-passes n e ∙ ap (λ (x : Bool). st .times + another x) p)
       (ap (λ (x : FrameLeft). x .outcome .station .carried) q ∙ unread-carried (st .station) ∙ silent-carried (st .station) k)
 
   lit : (d : Bool) (n : ℕ) → number ≡ n → passes n ≡ true → Handled (st .station) arrival (lend st b) d left → Step first st (frame arrival b)
   unfolding left
   lit d n e p r =
-      passed (upstream.frame (ownOf (st .station)) (mapOf (r .hlend) (arrival .octets)))
-      (ap (placed (st .times)) (ap sendings (r .leaves) ∙ handled-sent (st .station) (r .hlend) arrival (lend st b)) ∙ placed-are (st .times) (plannedOf (ownOf (st .station)) (mapOf (r .hlend) (arrival .octets)) (st .station .carried)))
+      let own = ownOf (st .station) in
+      let m = mapOf (r .hlend) (arrival .octets) in
+      let known = profileIn first (st .history) in
+      passed (upstream.frame own m)
+      (ap (placed known (st .times)) (ap sendings (r .leaves) ∙ handled-sent (st .station) (r .hlend) arrival (lend st b))
+      ∙ placed-are known own m x (st .times) (plannedOf own m (st .station .carried)) (planned-ours own m (st .station .carried)))
       (number-passes n e ∙ ap (λ (x : Bool). st .times + another x) p)
       (ap (λ (x : FrameLeft). x .outcome .station .carried) (r .leaves) ∙ handled-carried (st .station) (r .hlend) arrival (lend st b))
 
@@ -128,16 +148,20 @@ module _ (first : Station) (st : Progress) (arrival : Arrival) (b : Buffers) (k 
   unfolding left
   frame-step = by-row number refl (table (st .station) arrival (lend st b))
 
-step : (first : Station) (st : Progress) (c : Call) → Kept first st → Step first st c
-step first st (frame arrival b) k = frame-step first st arrival b (k .sound)
-step first st lost k =
+-- what the station holds of each profile is what the ledger has
+told-in : (first : Station) (st : Progress) → Kept first st → ((h : List Event) → ExactProfiles first h) → HoldsProfiles (profileIn first (st .history)) (st .station)
+told-in first st k x = subst (HoldsProfiles (profileIn first (st .history))) (k .same) (x (st .history))
+
+step : (first : Station) (st : Progress) (c : Call) → Kept first st → HoldsProfiles (profileIn first (st .history)) (st .station) → Step first st c
+step first st (frame arrival b) k x = frame-step first st arrival b (k .sound) x
+step first st lost k x =
     let e = lost-history (st .station) (k .sound) in
     passed dark refl (ap (λ x. st .times + another (passes (answerNumber (x .answer)))) e)
     (ap (λ x. x .station .carried) e ∙ lost-carried (st .station) ∙ silent-carried (st .station) (k .sound))
-step first st (addPort port) k = still refl refl (add-carried (st .station) port)
-step first st (removePort port) k = still refl refl (remove-carried (st .station) port)
-step first st (giveKey octets) k = still refl refl (key-carried (st .station) octets)
-step first st (whyDark f names) k = still refl refl refl
+step first st (addPort port) k x = still refl refl (add-carried (st .station) port)
+step first st (removePort port) k x = still refl refl (remove-carried (st .station) port)
+step first st (giveKey octets) k x = still refl refl (key-carried (st .station) octets)
+step first st (whyDark f names) k x = still refl refl refl
 
 -- ---- the frame times of a run
 
@@ -145,9 +169,9 @@ record Timeline (first : Station) (st : Progress) (calls : List Call) : Type 0 w
   pub times : List FrameTime
   pub bursts : burstsFrom lingbarrow first st calls ≡ upstream.burstsOf (upstreamWords * st .times) (st .station .carried) times
 
-timeline : (first : Station) (calls : List Call) (st : Progress) → Kept first st → Timeline first st calls
-timeline first [] st k = record { times = []; bursts = refl }
-timeline first (c ∷ l) st k = go (step first st c k) (timeline first l (after lingbarrow first st c) (call-kept first st c k))
+timeline : (first : Station) → ((h : List Event) → ExactProfiles first h) → (calls : List Call) (st : Progress) → Kept first st → Timeline first st calls
+timeline first x [] st k = record { times = []; bursts = refl }
+timeline first x (c ∷ l) st k = go (step first st c k (told-in first st k x)) (timeline first x l (after lingbarrow first st c) (call-kept first st c k))
   where
     go : Step first st c → Timeline first (after lingbarrow first st c) l → Timeline first st (c ∷ l)
     go (still n t w) rest =
@@ -180,21 +204,23 @@ lastFinish-join e [] k = refl
 lastFinish-join e (b ∷ l) k = lastFinish-join (finish b) l k
 
 pub carried-by
-    : (first : Station) (calls : List Call) (st : Progress) → Kept first st → (e : ℕ) → st .station .carried ≡ e - upstreamWords * st .times
+    : (first : Station) → ((h : List Event) → ExactProfiles first h) → (calls : List Call) (st : Progress) → Kept first st → (e : ℕ) → st .station .carried ≡ e - upstreamWords * st .times
     → let on = run lingbarrow first st calls in on .station .carried ≡ lastFinish e (burstsFrom lingbarrow first st calls) - upstreamWords * on .times
-carried-by first [] st k e h = h
-carried-by first (c ∷ l) st k e h =
-    rw (lastFinish-join e (burstsBy lingbarrow st c) (burstsFrom lingbarrow first (after lingbarrow first st c) l))
-    (carried-by first l (after lingbarrow first st c) (call-kept first st c k) (lastFinish e (burstsBy lingbarrow st c)) (go (step first st c k)))
+carried-by first x [] st k e h = h
+carried-by first x (c ∷ l) st k e h =
+    rw (lastFinish-join e (burstsBy lingbarrow first st c) (burstsFrom lingbarrow first (after lingbarrow first st c) l))
+    (carried-by first x l (after lingbarrow first st c) (call-kept first st c k) (lastFinish e (burstsBy lingbarrow first st c)) (go (step first st c k (told-in first st k x))))
   where
-    go : Step first st c → after lingbarrow first st c .station .carried ≡ lastFinish e (burstsBy lingbarrow st c) - upstreamWords * after lingbarrow first st c .times
+    go : Step first st c → after lingbarrow first st c .station .carried ≡ lastFinish e (burstsBy lingbarrow first st c) - upstreamWords * after lingbarrow first st c .times
     go (still n t w) = rw (n, t, w) h
     go (passed time n t w) =
         let o : upstreamWords * (st .times + 1) ≡ upstreamWords * st .times + upstreamWords = omega arith in
         rw (n, t, w, o) (sym (beyond-on (upstreamWords * st .times) e (st .station .carried) (upstream.sent (st .station .carried) time) h))
 
-pub no-word-shared : (first : Station) (calls : List Call) (st : Progress) → Kept first st → (word : ℕ) → takers word (burstsFrom lingbarrow first st calls) ≤ 1
-no-word-shared first calls st k word =
-    let t = timeline first calls st k in
+pub no-word-shared
+    : (first : Station) → ((h : List Event) → ExactProfiles first h) → (calls : List Call) (st : Progress) → Kept first st → (word : ℕ)
+    → takers word (burstsFrom lingbarrow first st calls) ≤ 1
+no-word-shared first x calls st k word =
+    let t = timeline first x calls st k in
     let o = upstreamWords * st .times in
     rw (t .bursts) (at-most-one word (o + st .station .carried) (upstream.burstsOf o (st .station .carried) (t .times)) (times-apart o (st .station .carried) (t .times)))

@@ -1,10 +1,10 @@
--- In O2-3 a frame with two discovery grants, at words 0 and 100: what this engine does with it, and that demand 3 has any engine
--- send two bursts.
+-- In O2-3, with a profile received that switches parity off, a frame with two discovery grants, at words 0 and 100: what this engine does
+-- with it, and that demand 3 has any engine send two bursts.
 -- Assumes nothing.
 use Prim.Native.Nat.{ℕ}
 use native.Mathlib.Omega.{arith}
 use mathlib.Core.Path.{_≡_, _∙_, refl, ap, ap₂, subst}
-use mathlib.Core.Bool.{true, false}
+use mathlib.Core.Bool.{Bool, true, false, false≢true}
 use mathlib.Core.List.{List, [], _∷_, _++_}
 use lib.Dec.{lit<}
 use lib.Count.{onesIn}
@@ -22,11 +22,13 @@ use Rattle.answers.specs.Answers.{answerNumber}
 use Rattle.entries.specs.declared.Verdict.the-variants.{Planned, ContinuingNothing}
 use Rattle.entries.specs.Names.{nameNumber}
 use Rattle.entries.specs.Standings.{standing, sorted, startUnfit, noRoom, continues, discovery}
-use Rattle.series.specs.Series.{Series, entryAt, standings, seriesOf, outset, planned, judged, wordsOf}
+use Rattle.link.specs.declared.Parity.the-variants.{NotReceived, Off}
+use Rattle.link.specs.Profiles.{profileAt, parityAt}
+use Rattle.series.specs.Series.{Series, entryAt, standings, seriesOf, unknown, outset, planned, judged, wordsOf}
 use Rattle.bwmap.specs.Promises.{Account}
 use Rattle.bwmap.specs.Verdicts.{roles, verdictsOf}
 use Rattle.bwmap.specs.Names.{nameNumbers, namesOf}
-use Rattle.plan.specs.Laser.{Sending, burstsOf}
+use Rattle.plan.specs.Laser.{burstsOf}
 use Rattle.downstream.specs.Lengths.{lengthFits}
 use Rattle.frame.specs.Given.{Arrival, Lent, enough}
 use Rattle.downstream.specs.Partitions.{mapOf}
@@ -34,10 +36,15 @@ use Rattle.frame.specs.Frame.{FrameLeft, ownOf, plannedIn, handled, frameLeft}
 use Rattle.engine.specs.Lods.{lostLeft}
 use Rattle.engine.specs.Answers.{lostIn, Handled, Row}
 use Rattle.engine.proofs.Table.{only}
-use Rattle.demands.specs.Runs.{frame}
-use Rattle.demands.specs.Demand3.{sendings, placed, Demand3}
+use Rattle.ledger.specs.Profiles.{profileIn}
+use Rattle.demands.specs.Runs.{Call, frame, start, runOf}
+use Rattle.demands.specs.Demand3.{sendings, placed, burstsBy, burstsOfRun, Demand3}
 use Rattle.demands.specs.Wrong.{withFrame}
-use Rattle.demands.proofs.RefutingRuns.{fresh, memory, buffers, lent, arrives, begun, Leads, on, asked, next-planned, none-planned, bare, searching, searching-in-range, bare-leads}
+use Rattle.demands.proofs.RefutingRuns.{serial, registration, fresh, memory, buffers, lent, arrives, begun, Stands, Leads, same, on, asked, next-planned, none-planned, bare, searching, bare-leads}
+use Rattle.demands.proofs.Told.{knowing, knowing-in-range, told, told-leads}
+
+abbrev pub ready : Station
+ready = knowing false
 
 -- ---- the frame as it is read
 
@@ -51,7 +58,7 @@ unfoldable pub grantAt : ℕ → Allocation
 grantAt start = record { alloc = record { 0 = 1023 }; dbru = false; ploamu = true; start = start; grant = 0; fwi = false; profile = 0 }
 
 unfoldable pub seriesFrom : ℕ → Series
-seriesFrom start = record { head = grantAt start; more = [] }
+seriesFrom start = record { head = grantAt start; parity = Off; more = [] }
 
 pub reads-two : readHlend two ≡ fields twoEntries
 unfolding two twoEntries remainderFrom onesIn flips
@@ -65,17 +72,17 @@ second-entry : entryAt (mapOf twoEntries two) 1 ≡ fields (grantAt 100)
 unfolding two twoEntries grantAt entryAt remainderFrom onesIn flips
 second-entry = ap (taken allocationOf) (computed64 0x0FFD0064000016CD (lit< tt) (word 0x0FFD0064000016CD) refl)
 
-two-series : seriesOf (standings (ownOf searching) (mapOf twoEntries two)) ≡ seriesFrom 0 ∷ seriesFrom 100 ∷ []
-unfolding seriesFrom grantAt two twoEntries standing sorted startUnfit noRoom continues discovery
-two-series = ap₂ (λ (a b : Found Allocation). seriesOf (standing (ownOf searching) a ∷ standing (ownOf searching) b ∷ [])) first-entry second-entry
+two-series : seriesOf (standings (ownOf ready) (mapOf twoEntries two)) ≡ seriesFrom 0 ∷ seriesFrom 100 ∷ []
+unfolding seriesFrom grantAt two twoEntries standing sorted startUnfit noRoom continues discovery parityAt profileAt
+two-series = ap₂ (λ (a b : Found Allocation). seriesOf (standing (ownOf ready) a ∷ standing (ownOf ready) b ∷ [])) first-entry second-entry
 
 -- ---- this engine
 
-handled-two : Handled searching (arrives two) lent false (handled searching twoEntries (arrives two) lent)
+handled-two : Handled ready (arrives two) lent false (handled ready twoEntries (arrives two) lent)
 unfolding lostIn lengthFits enough two memory buffers twoEntries
 handled-two =
     record {
-      passed = record { state = searching-in-range; frame = refl; buffers = refl };
+      passed = record { state = knowing-in-range false; frame = refl; buffers = refl };
       hlend = twoEntries;
       reads = reads-two;
       fits = omega arith;
@@ -83,37 +90,67 @@ handled-two =
       leaves = refl;
     }
 
-pub left-two : handled searching twoEntries (arrives two) lent ≡ frameLeft searching (arrives two) lent
-left-two = only searching (arrives two) lent 0 (handled searching twoEntries (arrives two) lent) (Row.done handled-two) .0
+pub left-two : handled ready twoEntries (arrives two) lent ≡ frameLeft ready (arrives two) lent
+left-two = only ready (arrives two) lent 0 (handled ready twoEntries (arrives two) lent) (Row.done handled-two) .0
 
-pub answer-two : answerNumber (handled searching twoEntries (arrives two) lent .outcome .answer) ≡ 0
-answer-two = only searching (arrives two) lent 0 (handled searching twoEntries (arrives two) lent) (Row.done handled-two) .1
+pub answer-two : answerNumber (handled ready twoEntries (arrives two) lent .outcome .answer) ≡ 0
+answer-two = only ready (arrives two) lent 0 (handled ready twoEntries (arrives two) lent) (Row.done handled-two) .1
 
-pub two-planned : plannedIn searching twoEntries (arrives two) ≡ seriesFrom 0 ∷ seriesFrom 100 ∷ []
+pub two-planned : plannedIn ready twoEntries (arrives two) ≡ seriesFrom 0 ∷ seriesFrom 100 ∷ []
 unfolding plannedIn seriesFrom grantAt judged wordsOf
 two-planned = ap (planned (outset 0)) two-series
 
 -- it calls both planned
-pub two-named : namesOf (ownOf searching) (mapOf twoEntries two) 0 ≡ nameNumber Planned ∷ nameNumber Planned ∷ []
-unfolding grantAt two twoEntries standing sorted startUnfit noRoom continues discovery judged wordsOf
+pub two-named : namesOf (ownOf ready) (mapOf twoEntries two) 0 ≡ nameNumber Planned ∷ nameNumber Planned ∷ []
+unfolding grantAt two twoEntries standing sorted startUnfit noRoom continues discovery parityAt profileAt judged wordsOf
 two-named =
-    ap₂ (λ (a b : Found Allocation). nameNumbers (verdictsOf (outset 0) ContinuingNothing (roles 0 (standing (ownOf searching) a ∷ standing (ownOf searching) b ∷ []))))
+    ap₂ (λ (a b : Found Allocation). nameNumbers (verdictsOf (outset 0) ContinuingNothing (roles 0 (standing (ownOf ready) a ∷ standing (ownOf ready) b ∷ []))))
     first-entry second-entry
 
 -- ---- any engine
 
+off-received : Off ≡ NotReceived → ⊥
+off-received e = false≢true (ap unknown e)
+
 both-planned : (p : List Series) → Account (outset 0) (seriesFrom 0 ∷ seriesFrom 100 ∷ []) p → p ≡ seriesFrom 0 ∷ seriesFrom 100 ∷ []
 unfolding seriesFrom grantAt wordsOf
 both-planned p a =
-    let x = next-planned (omega arith) (omega arith) (omega arith) a in
-    let y = next-planned (omega arith) (omega arith) (omega arith) (x .account) in
+    let x = next-planned {s = seriesFrom 0} off-received (omega arith) (omega arith) (omega arith) a in
+    let y = next-planned {s = seriesFrom 100} off-received (omega arith) (omega arith) (omega arith) (x .account) in
     x .is ∙ ap (λ (l : List Series). seriesFrom 0 ∷ l) (y .is ∙ ap (λ (l : List Series). seriesFrom 100 ∷ l) (none-planned (y .account)))
 
--- one that goes from power-on to O2-3 as it should, sending nothing on the way, and answers this frame with 0
-pub sends-both : (call : Station → Arrival → Lent → FrameLeft) → Demand3 (withFrame call) → Leads (call fresh (arrives bare) lent) searching
-    → sendings (call fresh (arrives bare) lent) ≡ [] → answerNumber (call searching (arrives two) lent .outcome .answer) ≡ 0
-    → sendings (call searching (arrives two) lent) ≡ burstsOf (seriesFrom 0 ∷ seriesFrom 100 ∷ [])
-sends-both call d first dark answer =
-    let o = asked call lostLeft d (frame (arrives bare) buffers ∷ []) searching searching
-    (on call lostLeft _ fresh fresh begun bare searching searching bare-leads first) (ap (λ (l : List Sending). placed 0 l ++ []) dark) two twoEntries reads-two answer in
+-- one that goes from power-on to O2-3 and takes the profile as it should, sending nothing on the way, and answers this frame with 0
+pub record Prepared (call : Station → Arrival → Lent → FrameLeft) (parity : Bool) : Type 0 where
+  pub starts : Leads (call fresh (arrives bare) lent) searching
+  pub dark : sendings (call fresh (arrives bare) lent) ≡ []
+  pub hears : Leads (call searching (arrives (told parity)) lent) (knowing parity)
+  pub unlit : sendings (call searching (arrives (told parity)) lent) ≡ []
+
+abbrev pub preparing : Bool → List Call
+preparing parity = frame (arrives bare) buffers ∷ frame (arrives (told parity)) buffers ∷ []
+
+module _ (call : Station → Arrival → Lent → FrameLeft) (parity : Bool) (p : Prepared call parity) where
+  begins : Stands (runOf (withFrame call) serial registration memory (frame (arrives bare) buffers ∷ [])) searching searching
+  begins = on call lostLeft _ fresh fresh begun bare searching searching bare-leads (p .starts)
+
+  pub prepared : Stands (runOf (withFrame call) serial registration memory (preparing parity)) (knowing parity) (knowing parity)
+  prepared = on call lostLeft _ searching searching begins (told parity) (knowing parity) (knowing parity) (told-leads parity) (p .hears)
+
+  pub first-dark : burstsBy (withFrame call) fresh (start fresh memory) (frame (arrives bare) buffers) ≡ []
+  first-dark = ap (placed (profileIn fresh []) 0) (p .dark)
+
+  pub second-dark
+      : burstsBy (withFrame call) fresh (runOf (withFrame call) serial registration memory (frame (arrives bare) buffers ∷ [])) (frame (arrives (told parity)) buffers) ≡ []
+  second-dark =
+      let st = runOf (withFrame call) serial registration memory (frame (arrives bare) buffers ∷ []) in
+      ap (placed (profileIn fresh (st .history)) (st .times)) (ap sendings (same call lostLeft st searching searching begins (told parity)) ∙ p .unlit)
+
+  nothing-yet : burstsOfRun (withFrame call) serial registration memory (preparing parity) ≡ []
+  nothing-yet = ap₂ _++_ first-dark (ap₂ _++_ second-dark refl)
+
+pub sends-both : (call : Station → Arrival → Lent → FrameLeft) → Demand3 (withFrame call) → Prepared call false
+    → answerNumber (call ready (arrives two) lent .outcome .answer) ≡ 0
+    → sendings (call ready (arrives two) lent) ≡ burstsOf (seriesFrom 0 ∷ seriesFrom 100 ∷ [])
+sends-both call d p answer =
+    let o = asked call lostLeft d (preparing false) ready ready (prepared call false p) (nothing-yet call false p) two twoEntries reads-two answer in
     o .are ∙ ap burstsOf (both-planned (o .planned) (subst (λ (l : List Series). Account (outset 0) l (o .planned)) two-series (o .account)))

@@ -4,7 +4,7 @@
 use Prim.Native.Nat.{ℕ, _<_, _≤_}
 use native.Mathlib.Omega.{arith}
 use mathlib.Core.Path.{_≡_, _∙_, refl, ap, subst}
-use mathlib.Core.Bool.{true}
+use mathlib.Core.Bool.{true, false}
 use mathlib.Core.List.{List, [], _∷_}
 use lib.ListN.{length, getD, take, replicate, length-replicate}
 use borrow.Author.Tests.{le-leb}
@@ -24,8 +24,8 @@ use Rattle.downstream.specs.Partitions.{headerEnd}
 use Rattle.engine.specs.Naming.{NamesLeft, namedIn, mostStructures, namesBy, whyDark}
 use Rattle.demands.specs.Promises.{TruthfulNames}
 use Rattle.demands.specs.Wrong.{withNames, renamed, callsAllForeign, namesTheFirst}
-use Rattle.demands.proofs.RefutingRuns.{searching, searching-in-range}
-use Rattle.demands.proofs.TwoGrants.{two, twoEntries, reads-two, two-named}
+use Rattle.demands.proofs.Told.{knowing-in-range}
+use Rattle.demands.proofs.TwoGrants.{ready, two, twoEntries, reads-two, two-named}
 use Rattle.demands.proofs.Names.{truthful-names, same-name}
 
 -- ---- what this engine leaves
@@ -49,10 +49,10 @@ opened s f names h p q r e fits =
 abbrev bothPlanned : List ℕ
 bothPlanned = nameNumber Planned ∷ nameNumber Planned ∷ []
 
-named-two : whyDark searching two lentNames ≡ record { found = record { answer = Done; count = 2 }; names = put lentNames bothPlanned }
+named-two : whyDark ready two lentNames ≡ record { found = record { answer = Done; count = 2 }; names = put lentNames bothPlanned }
 unfolding namedIn two twoEntries lengthFits
 named-two =
-    opened searching two lentNames twoEntries searching-in-range refl long-enough reads-two (omega arith)
+    opened ready two lentNames twoEntries (knowing-in-range false) refl long-enough reads-two (omega arith)
     ∙ ap (λ (l : List ℕ). record { found = record { answer = Done; count = 2 }; names = put lentNames l }) two-named
 
 -- ---- and what a tool with other names may leave
@@ -62,10 +62,10 @@ as-named
     → getD (put lentNames (other bothPlanned)) i 0 ≡ getD (put lentNames bothPlanned) i 0
 unfolding twoEntries
 as-named other d i lies =
-    let w = whyDark searching two lentNames in
+    let w = whyDark ready two lentNames in
     let answer : answerNumber (w .found .answer) ≡ 0 = ap (λ (x : NamesLeft). answerNumber (x .found .answer)) named-two in
     subst (λ (x : NamesLeft). getD (renamed other x lentNames .names) i 0 ≡ getD (x .names) i 0) named-two
-    (same-name searching two twoEntries reads-two i lies (renamed other w lentNames) w (d searching two lentNames answer) (truthful-names searching two lentNames answer))
+    (same-name ready two twoEntries reads-two i lies (renamed other w lentNames) w (d ready two lentNames answer) (truthful-names ready two lentNames answer))
 
 -- the first is planned, and its fact is not that it is foreign
 pub calls-all-foreign : TruthfulNames callsAllForeign → ⊥

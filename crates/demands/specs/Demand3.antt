@@ -2,7 +2,8 @@
 -- frame's map, in a state that may send, on the discovery number 1023 while we hold no identity and otherwise on numbers that
 -- messages accepted in earlier frames gave us and nothing before that frame took back. Every such series in a frame answered 0
 -- or 6 is planned once, in map order, except one that is too long, starts before the last planned burst has ended, or comes
--- when that frame already has four planned. No two planned bursts of the run share an upstream word."
+-- when that frame already has four planned. No two planned bursts of the run share an upstream word." It is read after parity, and a
+-- series "whose profile hasn't been received is passed over first of all".
 -- Assumes nothing.
 use Prim.Native.Nat.{ℕ, _+_, _-_, _*_, _%_, _≤_}
 use mathlib.Core.Path.{_≡_}
@@ -18,9 +19,10 @@ use Rattle.answers.specs.Answers.{answerNumber}
 use Rattle.station.specs.Limits.{upstreamWords}
 use Rattle.station.specs.States.{holdsIdentity, silent}
 use Rattle.ploam.specs.Layout.{number16}
+use Rattle.link.specs.declared.Parity.{Parity}
 use Rattle.messages.specs.Receiving.{messagesIn}
 use Rattle.series.specs.Limits.{ploamuWords}
-use Rattle.series.specs.Series.{Series, outset, standings, seriesOf}
+use Rattle.series.specs.Series.{Series, sentWords, outset, standings, seriesOf}
 use Rattle.bwmap.specs.Promises.{SeriesIn, Account}
 use Rattle.plan.specs.Limits.{numbersARecord}
 use Rattle.plan.specs.Plan.{numbers}
@@ -28,7 +30,8 @@ use Rattle.plan.specs.Laser.{Grant, Sending, laser, burstOf, burstsOf}
 use Rattle.bwmap.specs.Upstream.{Burst, finish, takers}
 use Rattle.ledger.specs.Events.{Event}
 use Rattle.ledger.specs.Ledger.{ledger, holds}
-use Rattle.ledger.specs.Promises.{Holds}
+use Rattle.ledger.specs.Profiles.{profileIn}
+use Rattle.ledger.specs.Promises.{Holds, HoldsProfiles}
 use Rattle.ledger.specs.Plan.{ownOf, ownAt, Listed, Discovery, Ours}
 use Rattle.frame.specs.Given.{Arrival}
 use Rattle.downstream.specs.Partitions.{headerEnd, mapOf, messagesOf}
@@ -42,31 +45,36 @@ use Rattle.demands.specs.Runs.{Call, frame, lost, addPort, removePort, g
 abbrev pub sendings : FrameLeft → List Sending
 sendings left = laser (left .counts .records) (left .lent .plan)
 
--- a burst's words, from its records: "1 word, 12 more if its head has PLOAMu, its GrantSizes, and 1 word"
+-- a burst's words before parity, from its records: "1 word, 12 more if its head has PLOAMu, its GrantSizes, and 1 word"
 abbrev pub granted : List Grant → ℕ
 granted [] = 0
 granted (g ∷ l) = g .words + granted l
 
-abbrev pub wordsOf : Sending → ℕ
-wordsOf b = 1 + cond (b .ploamu) ploamuWords 0 + granted (b .grants) + 1
+abbrev pub bareWords : Sending → ℕ
+bareWords b = 1 + cond (b .ploamu) ploamuWords 0 + granted (b .grants) + 1
+
+-- and after it, by the profile in its flags and what is known of each profile: "count parity where the head's profile switches it on"
+abbrev pub wordsOf : (ℕ → Parity) → Sending → ℕ
+wordsOf known b = sentWords (known (b .profile)) (bareWords b)
 
 -- upstream words are counted from power-on: 9,720 times the frame time, and the word in the frame
-abbrev pub placed : ℕ → List Sending → List Burst
-placed time [] = []
-placed time (b ∷ l) = record { from = upstreamWords * time + b .start; size = wordsOf b } ∷ placed time l
+abbrev pub placed : (ℕ → Parity) → ℕ → List Sending → List Burst
+placed known time [] = []
+placed known time (b ∷ l) = record { from = upstreamWords * time + b .start; size = wordsOf known b } ∷ placed known time l
 
--- all bursts of a run
-abbrev pub burstsBy : Engine → Progress → Call → List Burst
-burstsBy E st (frame a b) = placed (st .times) (sendings (E .frame (st .station) a (lend st b)))
-burstsBy E st lost = []
-burstsBy E st (addPort port) = []
-burstsBy E st (removePort port) = []
-burstsBy E st (giveKey octets) = []
-burstsBy E st (whyDark f names) = []
+-- all bursts of a run. What is known of a profile as a frame arrives is what the ledger of profiles has, by the messages of the frames
+-- before it, and not what the engine holds
+abbrev pub burstsBy : Engine → Station → Progress → Call → List Burst
+burstsBy E first st (frame a b) = placed (profileIn first (st .history)) (st .times) (sendings (E .frame (st .station) a (lend st b)))
+burstsBy E first st lost = []
+burstsBy E first st (addPort port) = []
+burstsBy E first st (removePort port) = []
+burstsBy E first st (giveKey octets) = []
+burstsBy E first st (whyDark f names) = []
 
 abbrev pub burstsFrom : Engine → Station → Progress → List Call → List Burst
 burstsFrom E first st [] = []
-burstsFrom E first st (c ∷ l) = burstsBy E st c ++ burstsFrom E first (after E first st c) l
+burstsFrom E first st (c ∷ l) = burstsBy E first st c ++ burstsFrom E first (after E first st c) l
 
 -- those of a run from power-on
 abbrev pub burstsOfRun : Engine → List ℕ → List ℕ → List ℕ → List Call → List Burst
@@ -99,6 +107,8 @@ pub record Planned (first : Station) (h : List Event) (m : List ℕ) (b : Sendin
   pub lies : SeriesIn (ownAt first h) m series
   pub sends : silent (ownAt first h .activation) ≡ false
   pub numbers : Numbered first h (series .head ∷ series .more)
+  -- its words are counted by what the ledger of profiles has for its head's
+  pub parity : series .parity ≡ profileIn first h (series .head .profile)
 
 abbrev pub AllPlanned : Station → List Event → List ℕ → List Sending → Type 0
 AllPlanned first h m [] = Unit {0}
@@ -149,6 +159,9 @@ pub record Demand3 (E : Engine) : Type 0 where
   -- what the engine holds as a frame arrives is what the ledger of the run before it says
   pub held : (serial registration memory : List ℕ) (calls : List Call)
       → let st = runOf E serial registration memory calls in Holds (ledger (E .powerOn serial registration) (st .history)) (st .station)
+  -- of the profiles too: each is what accepted Profiles said of it and nothing took back
+  pub profiles : (serial registration memory : List ℕ) (calls : List Call)
+      → let st = runOf E serial registration memory calls in HoldsProfiles (profileIn (E .powerOn serial registration) (st .history)) (st .station)
   -- by what it holds, these entries of a map are ours
   pub ours : (serial registration memory : List ℕ) (calls : List Call)
       → let st = runOf E serial registration memory calls in Ours (ledger (E .powerOn serial registration) (st .history)) (ownOf (st .station))

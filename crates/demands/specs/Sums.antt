@@ -1,4 +1,5 @@
--- Document 01's "Sums to prove", one table: the theorem `sums` says that each of the twelve rows holds.
+-- Document 01's "Sums to prove", one table: the theorem `sums` says that each of the twelve rows holds, and what
+-- room for parity adds to them.
 -- Assumes nothing.
 use mathlib.Core.Path.{_≡_}
 use Prim.Native.Nat.{ℕ}
@@ -6,7 +7,7 @@ use Rattle.octets.specs.Octets.{octets}
 use Rattle.xgem.specs.Layouts.{payloadSize}
 use Rattle.xgem.specs.Reads.{fields, unreadable}
 use Rattle.xgtc.specs.Reads.{readHlend}
-use Rattle.bwmap.specs.Sums.{Sum8, Sum9, Sum10, Sum11}
+use Rattle.bwmap.specs.Sums.{Sum8, Sum9, Sum10, Sum11, SumParity}
 use Rattle.decisions.specs.Sums.{Sum12}
 
 -- the four octets of HLend give a BWmap length and a PLOAM count
@@ -30,3 +31,5 @@ pub record Sums : Type 1 where
   pub sum-11 : Sum11
   -- Relative -1 at equalization delay 0: unchanged, parameter error
   pub sum-12 : Sum12
+  -- "14 becomes 18, 58 becomes 62, 59 becomes 67"; the limit, the carried words and a profile not received
+  pub sum-parity : SumParity

@@ -1,9 +1,9 @@
--- The wrong engines that the paper shuts out by name, one that gives every station one serial number, and one that forgets an Alloc-ID
--- in O6: each is this engine with one call changed.
+-- The wrong engines that the paper shuts out by name, one that gives every station one serial number, one that forgets an Alloc-ID
+-- in O6, one that counts no parity, and one that keeps profiles over O2-3: each is this engine with one call changed.
 -- Assumes nothing.
 use Prim.Native.Nat.{ℕ, _+_}
 use mathlib.Core.Bool.{cond}
-use mathlib.Core.List.{List, _∷_}
+use mathlib.Core.List.{List, [], _∷_}
 use lib.ListN.{length, take, drop, replicate}
 use Rattle.ids.specs.Ids.{managementPort}
 use Rattle.xgtc.specs.declared.hlend.Hlend.{Hlend}
@@ -12,9 +12,13 @@ use Rattle.xgtc.specs.Reads.{readHlend}
 use Rattle.xgem.specs.Writes as writing
 use Rattle.station.specs.declared.Station.{Station}
 use Rattle.answers.specs.declared.Answer.the-variants.{Done, StateOutOfRange}
-use Rattle.link.specs.Link.{noAllocs, withAllocs}
+use Rattle.link.specs.declared.Parity.{Parity}
+use Rattle.link.specs.declared.Parity.the-variants.{NotReceived, Off, On}
+use Rattle.link.specs.declared.Profile.{Profile}
+use Rattle.link.specs.declared.Profiles.{Profiles}
+use Rattle.link.specs.Link.{noAllocs, withAllocs, withProfiles}
 use Rattle.station.specs.Limits.{serialOctets}
-use Rattle.station.specs.States.{isOperating, isRanging}
+use Rattle.station.specs.States.{isOperating, isRanging, o23}
 use Rattle.station.specs.Station.{withLink}
 use Rattle.timing.specs.Timing.{frameEnd}
 use Rattle.messages.specs.Receiving.{receiveAll, messagesIn}
@@ -28,6 +32,7 @@ use Rattle.frame.specs.Given.{Arrival, Lent}
 use Rattle.frame.specs.Frame.{FrameLeft, refused, plannedIn, repliesIn, payloadIn, foundBy, done, handled, frameLeft}
 use Rattle.entries.specs.declared.Verdict.the-variants.{Foreign}
 use Rattle.entries.specs.Names.{nameNumber}
+use Rattle.ledger.specs.Messages.{inState}
 use Rattle.engine.specs.Lods.{lostLeft}
 use Rattle.engine.specs.Naming.{NamesLeft, whyDark}
 use Rattle.demands.specs.Engine.{Writers, Engine, lingbarrow}
@@ -190,3 +195,31 @@ forgetful s = withLink s (withAllocs (s .link) noAllocs)
 
 abbrev pub forgetsAllocs : Engine
 forgetsAllocs = withLost (λ s. record { answer = lostLeft s .answer; station = forgetful (lostLeft s .station) })
+
+-- ---- wrong about parity
+
+-- what is known of the profiles, with parity in none
+abbrev pub switchedOff : Parity → Parity
+switchedOff NotReceived = NotReceived
+switchedOff Off = Off
+switchedOff On = Off
+
+abbrev pub allOff : List Profile → List Profile
+allOff [] = []
+allOff (p ∷ l) = record { parity = switchedOff (p .parity) } ∷ allOff l
+
+abbrev pub withoutParity : Station → Station
+withoutParity s = withLink s (withProfiles (s .link) (record { held = allOff (s .link .profiles .held) }))
+
+-- one that counts no parity: its plan is that of the same station with parity in no profile, and the state is as it should be
+abbrev pub countsNoParity : Engine
+countsNoParity = withFrame (λ s a lent. withStation (frameLeft s a lent .outcome .station) (frameLeft (withoutParity s) a lent))
+
+-- one that keeps profiles over O2-3: a lost time that finds O2-3 leaves them
+abbrev pub keeping : Profiles → Station → Station
+keeping profiles s = withLink s (withProfiles (s .link) profiles)
+
+abbrev pub keepsProfiles : Engine
+keepsProfiles =
+    withLost
+    (λ s. record { answer = lostLeft s .answer; station = cond (inState o23 s) (keeping (s .link .profiles) (lostLeft s .station)) (lostLeft s .station) })

@@ -40,10 +40,12 @@ fn named_in(s: Station, h: Hlend, frame: &[u8], names: &mut [u8]) -> Named
     let link = s.link;
     let onu = link.onu;
     let allocs = link.allocs;
+    let profiles = link.profiles;
     let own = Own {
         activation: arrived,
         onu: onu,
         allocs: allocs,
+        profiles: profiles,
     };
     match bwmap::name_map(map, own, s.carried, names) {
         Naming::Named(n) => Named {

@@ -60,7 +60,7 @@ unread answer s lent = leaving (without answer (unreadTime s)) lent
 -- ---- (a) "The plan, replies and deliveries follow the state in which the frame arrived"
 
 abbrev pub ownOf : Station → Own
-ownOf s = record { activation = s .activation; onu = s .link .onu; allocs = s .link .allocs }
+ownOf s = record { activation = s .activation; onu = s .link .onu; allocs = s .link .allocs; profiles = s .link .profiles }
 
 -- the bursts that are planned
 unfoldable pub plannedIn : Station → Hlend → Arrival → List Series

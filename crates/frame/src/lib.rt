@@ -99,10 +99,12 @@ fn plan_bursts(s: Station, map: &[u8], plan: &mut [u16]) -> Plan
     let link = s.link;
     let onu = link.onu;
     let allocs = link.allocs;
+    let profiles = link.profiles;
     let own = Own {
         activation: arrived,
         onu: onu,
         allocs: allocs,
+        profiles: profiles,
     };
     plan_of(bwmap::plan_map(map, own, s.carried, plan))
 }

@@ -1,11 +1,13 @@
 pub mod Book
 pub mod Numbers
 pub mod Turns
+pub mod Notes
 pub mod Messages
 pub mod Quiet
 pub mod Times
 pub mod Keeps
 pub mod Runs
+pub mod Unheard
 pub mod Listed
 pub mod Plan
 pub mod Frames

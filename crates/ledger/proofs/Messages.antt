@@ -1,7 +1,7 @@
 -- Every message: the turn that it takes, and that the ledger's entry goes with it.
 -- Assumes nothing.
 use Prim.Native.Nat.{ℕ}
-use mathlib.Core.Path.{_≡_, _∙_, refl, sym}
+use mathlib.Core.Path.{_≡_, _∙_, refl, sym, ap}
 use mathlib.Core.Bool.{Bool, true, false, _&&_, _||_, not, cond, false≢true, true≢false}
 use mathlib.Core.List.{List}
 use lib.Dec.{eqb, leb, ltb}
@@ -51,10 +51,12 @@ use Rattle.messages.specs.Receiving.{acting, receive}
 use Rattle.validity.proofs.Tests.{both}
 use Rattle.ledger.specs.Entries.{Entry, gave, tookBack, tookAllBack, neither}
 use Rattle.ledger.specs.Messages.{isOwn, byAssignOnuId, acceptsAllocId, byType, byAssignAllocId, byDeactivate, disabling, byDisable, byContent, heeds, byMessage}
+use Rattle.ledger.specs.Profiles.{Note, told, untold, acceptsProfile, toldBy, noteBy, withNumbers}
 use Rattle.ledger.specs.Plan.{ownOf}
 use Rattle.ledger.proofs.Book.{posted}
 use Rattle.ledger.proofs.Numbers.{among, found-among}
-use Rattle.ledger.proofs.Turns.{holdsOwn, Fine, Turn, stays, named, goes, adds, drops, hears, forgets, turned, Allowed, none-held, apart}
+use Rattle.ledger.proofs.Turns.{holdsOwn, mayHear, Fine, Turn, stays, named, goes, adds, drops, hears, forgets, turned, Allowed, none-held, apart}
+use Rattle.ledger.proofs.Notes.{Noted, none-told, set-told, idle-noted}
 
 -- ---- the statement
 
@@ -68,14 +70,19 @@ turnOf (RemoveAlloc id) = drops id
 turnOf (SetProfile index parity) = hears index parity
 turnOf (Enter a) = forgets a
 
--- what a message did: a change, and the entry that goes with it
-pub record Did (s t : Station) (x : Entry) : Type 0 where
+-- what a message did: a change, and the entry and the note that go with it
+pub record Did (s t : Station) (x : Entry) (y : Note) : Type 0 where
   pub change : Change
   pub is : ownOf t ≡ turned (ownOf s) (turnOf change)
   pub allowed : Allowed (ownOf s) (turnOf change) x
+  pub noted : Noted (ownOf s) (turnOf change) y
 
+abbrev Writes : Station → Effect → Entry → Note → Type 0
+Writes s e x y = (Allowed (ownOf s) (turnOf (e .change)) x) × (Noted (ownOf s) (turnOf (e .change)) (withNumbers x y))
+
+-- what says nothing of a profile
 abbrev Fits : Station → Effect → Entry → Type 0
-Fits s e x = Allowed (ownOf s) (turnOf (e .change)) x
+Fits s e x = Writes s e x untold
 
 -- ---- an effect takes the turn of its change
 
@@ -143,21 +150,62 @@ in-o7 Operation e = absurd (false≢true e)
 in-o7 (Intermittent left) e = absurd (false≢true e)
 in-o7 EmergencyStop e = refl
 
+unheard-in-o7 : (a : Activation) → eqb (stateNumber a) o7 ≡ true → mayHear a ≡ false
+unheard-in-o7 Initial e = absurd (false≢true e)
+unheard-in-o7 SerialNumber e = absurd (false≢true e)
+unheard-in-o7 (Ranging left) e = absurd (false≢true e)
+unheard-in-o7 Operation e = absurd (false≢true e)
+unheard-in-o7 (Intermittent left) e = absurd (false≢true e)
+unheard-in-o7 EmergencyStop e = refl
+
+heard-in : (a : Activation) → (eqb (stateNumber a) o23 || (eqb (stateNumber a) o4 || eqb (stateNumber a) o5)) ≡ true → mayHear a ≡ true
+heard-in Initial e = absurd (false≢true e)
+heard-in SerialNumber e = refl
+heard-in (Ranging left) e = refl
+heard-in Operation e = refl
+heard-in (Intermittent left) e = absurd (false≢true e)
+heard-in EmergencyStop e = absurd (false≢true e)
+
 module _ (s : Station) (f : Fine (ownOf s)) where
   abbrev Quiet : Effect → Type 0
   Quiet e = Fits s e neither
 
+  still : Quiet ignored
+  still = ((λ n. refl), (λ i. refl))
+
   -- without room for its answer nothing comes of it
   quiet-fits : (q : Queue) (e : Effect) → Quiet e → Quiet (fitting q e)
-  quiet-fits q e p = choose Quiet (room q (e .debt)) e ignored (λ h. p) (λ h n. refl)
+  quiet-fits q e p = choose Quiet (room q (e .debt)) e ignored (λ h. p) (λ h. still)
 
   -- ---- Profile
 
-  profile-quiet : (b : Bool) (seq index : ℕ) (parity : Bool) → Quiet (profile (stateNumber (s .activation)) b seq index parity)
-  unfolding profile
-  profile-quiet true seq index parity =
-      choose Quiet (eqb (stateNumber (s .activation)) o23 || (eqb (stateNumber (s .activation)) o4 || eqb (stateNumber (s .activation)) o5)) _ ignored (λ h n. refl) (λ h n. refl)
-  profile-quiet false seq index parity = choose Quiet (eqb (stateNumber (s .activation)) o5) _ ignored (λ h n. refl) (λ h n. refl)
+  profile-fits
+      : (b : Bool) (seq index : ℕ) (parity : Bool)
+      → Writes s (fitting (s .link .owed) (profile (stateNumber (s .activation)) b seq index parity)) neither
+      (cond (acceptsProfile s b) (told index parity) untold)
+  unfolding profile acceptsProfile
+  profile-fits true seq index parity =
+      go (eqb (stateNumber (s .activation)) o23 || (eqb (stateNumber (s .activation)) o4 || eqb (stateNumber (s .activation)) o5)) refl
+    where
+      go
+          : (x : Bool)
+          → (eqb (stateNumber (s .activation)) o23 || (eqb (stateNumber (s .activation)) o4 || eqb (stateNumber (s .activation)) o5)) ≡ x
+          → Writes s (fitting (s .link .owed) (cond x (does (SetProfile index parity)) ignored)) neither (cond x (told index parity) untold)
+      go true e = ((heard-in (s .activation) e, refl), set-told (s .link .profiles) (f .four) index parity)
+      go false e = still
+  profile-fits false seq index parity = go (eqb (stateNumber (s .activation)) o5) refl (ltb (s .link .owed .count) mostOwed) refl
+    where
+      room-is : (z : Bool) → ltb (s .link .owed .count) mostOwed ≡ z → not (leb mostOwed (s .link .owed .count)) ≡ z
+      room-is z e = sym (ltb-not (s .link .owed .count) mostOwed) ∙ e
+
+      go
+          : (x : Bool) → eqb (stateNumber (s .activation)) o5 ≡ x → (z : Bool) → ltb (s .link .owed .count) mostOwed ≡ z
+          → Writes s (fitting (s .link .owed) (cond x (answers (SetProfile index parity) Ok seq) ignored)) neither
+          (cond (x && z) (told index parity) untold)
+      go false h z e = still
+      go true h false e = rw (room-is false e) still
+      go true h true e =
+          rw (room-is true e) ((ap mayHear (in-o5 (s .activation) h), refl), set-told (s .link .profiles) (f .four) index parity)
 
   -- ---- Assign_ONU-ID
 
@@ -173,39 +221,40 @@ module _ (s : Station) (f : Fine (ownOf s)) where
       go true e =
           let p = both b _ e .1 in
           let r = both (eqb (stateNumber (s .activation)) o23) _ p in
-          (in-o23 (s .activation) (r .0), both (isOwn s serial) (assignableOnu onu) (r .1) .1, refl)
-      go false e = λ n. refl
+          ((in-o23 (s .activation) (r .0), both (isOwn s serial) (assignableOnu onu) (r .1) .1, refl), (λ i. refl))
+      go false e = still
 
   -- ---- Ranging_Time
 
   answered-quiet : (t : Target) (seq : ℕ) → Quiet (answered t seq)
-  answered-quiet (To delay) seq = λ n. refl
-  answered-quiet Outside seq = λ n. refl
+  answered-quiet (To delay) seq = still
+  answered-quiet Outside seq = still
 
   unanswered-quiet : (t : Target) → Quiet (unanswered t)
-  unanswered-quiet (To delay) = λ n. refl
-  unanswered-quiet Outside = λ n. refl
+  unanswered-quiet (To delay) = still
+  unanswered-quiet Outside = still
 
   ranging-quiet : (b : Bool) (delay seq : ℕ) (way : Adjustment) (amount : ℕ) → Quiet (rangingTime (stateNumber (s .activation)) b delay seq way amount)
   unfolding rangingTime
   ranging-quiet true delay seq way amount =
       choose Quiet (eqb (stateNumber (s .activation)) o5 && not (absolute way)) _ ignored
-      (λ h. unanswered-quiet (moved way delay amount)) (λ h n. refl)
+      (λ h. unanswered-quiet (moved way delay amount)) (λ h. still)
   ranging-quiet false delay seq way amount =
       choose Quiet (eqb (stateNumber (s .activation)) o5) _ _
       (λ h. answered-quiet (moved way delay amount) seq)
       (λ h.
       choose Quiet (eqb (stateNumber (s .activation)) o4 && absolute way) _ ignored
-      (λ k. (in-o4 (s .activation) (both (eqb (stateNumber (s .activation)) o4) _ k .0), refl, (λ w. absurd (true≢false w)), refl))
-      (λ k n. refl))
+      (λ k.
+      ((in-o4 (s .activation) (both (eqb (stateNumber (s .activation)) o4) _ k .0), refl, (λ w. absurd (true≢false w)), refl), (λ i. refl)))
+      (λ k. still))
 
   request-quiet : (b : Bool) (seq : ℕ) → Quiet (requestRegistration (stateNumber (s .activation)) b seq)
   unfolding requestRegistration
-  request-quiet b seq = choose Quiet (not b && eqb (stateNumber (s .activation)) o5) _ ignored (λ h n. refl) (λ h n. refl)
+  request-quiet b seq = choose Quiet (not b && eqb (stateNumber (s .activation)) o5) _ ignored (λ h. still) (λ h. still)
 
   unknown-quiet : (b : Bool) (seq : ℕ) → Quiet (unknownType (stateNumber (s .activation)) b seq)
   unfolding unknownType
-  unknown-quiet b seq = choose Quiet (not b && eqb (stateNumber (s .activation)) o5) _ ignored (λ h n. refl) (λ h n. refl)
+  unknown-quiet b seq = choose Quiet (not b && eqb (stateNumber (s .activation)) o5) _ ignored (λ h. still) (λ h. still)
 
   -- ---- Deactivate_ONU-ID, Disable_Serial_Number
 
@@ -214,38 +263,39 @@ module _ (s : Station) (f : Fine (ownOf s)) where
   deactivates q = go (holdsIdentity (s .activation))
     where
       go : (x : Bool) → Fits s (fitting q (cond x (does (Enter Initial)) ignored)) (cond x tookAllBack neither)
-      go true = (refl, λ n. refl)
-      go false = λ n. refl
+      go true = ((refl, λ n. refl), none-told)
+      go false = still
 
   off : (q : Queue) → Fits s (fitting q (switchOff (s .activation))) (cond (holdsIdentity (s .activation) || eqb (stateNumber (s .activation)) o23) tookAllBack neither)
   unfolding switchOff
   off q = go (holdsIdentity (s .activation) || eqb (stateNumber (s .activation)) o23)
     where
       go : (x : Bool) → Fits s (fitting q (cond x (does (Enter EmergencyStop)) ignored)) (cond x tookAllBack neither)
-      go true = (refl, λ n. refl)
-      go false = λ n. refl
+      go true = ((refl, λ n. refl), none-told)
+      go false = still
 
   on : (q : Queue) → Quiet (fitting q (switchOn (s .activation)))
   unfolding switchOn
   on q = go (eqb (stateNumber (s .activation)) o7) refl
     where
       go : (x : Bool) → eqb (stateNumber (s .activation)) o7 ≡ x → Quiet (fitting q (cond x (does (Enter Initial)) ignored))
-      go true e = (refl, none-held (ownOf s) f (in-o7 (s .activation) e))
-      go false e = λ n. refl
+      go true e =
+          ((refl, none-held (ownOf s) f (in-o7 (s .activation) e)), idle-noted (ownOf s) Initial (f .unheard (unheard-in-o7 (s .activation) e)))
+      go false e = still
 
   disables
       : (q : Queue) (b own : Bool) (switch : Switch)
       → Fits s (fitting q (disable (s .activation) b own switch))
       (cond (b && (disabling own switch && (holdsIdentity (s .activation) || eqb (stateNumber (s .activation)) o23))) tookAllBack neither)
   unfolding disable
-  disables q false own switch = λ n. refl
+  disables q false own switch = still
   disables q true true DisableOwn = off q
-  disables q true false DisableOwn = λ n. refl
+  disables q true false DisableOwn = still
   disables q true true EnableOwn = on q
-  disables q true false EnableOwn = λ n. refl
+  disables q true false EnableOwn = still
   disables q true own DisableAll = off q
   disables q true own EnableAll = on q
-  disables q true own OtherSwitch = λ n. refl
+  disables q true own OtherSwitch = still
 
   -- ---- Assign_Alloc-ID
 
@@ -295,12 +345,13 @@ module _ (s : Station) (f : Fine (ownOf s)) where
           : (x : Bool) → isHeld (allocPlace allocs id) ≡ x → (y : Bool) → leb addedAllocs (allocs .count) ≡ y
           → Fits s (cond x (answers Keep Ok seq) (cond y (answers Keep ProcessingError seq) (answers (AddAlloc id) Ok seq)))
           (cond (x || ltb (allocs .count) addedAllocs) (gave (id .0)) neither)
-      go true h y k = λ n. given-again id n h
-      go false h true k = λ n. rw (ltb-not (allocs .count) addedAllocs, k)
-      go false h false k = rw (ltb-not (allocs .count) addedAllocs, k) (o, a, h, leb-false addedAllocs (allocs .count) k, refl)
+      go true h y k = ((λ n. given-again id n h), (λ i. refl))
+      go false h true k = rw (ltb-not (allocs .count) addedAllocs, k) still
+      go false h false k = rw (ltb-not (allocs .count) addedAllocs, k) ((o, a, h, leb-false addedAllocs (allocs .count) k, refl), (λ i. refl))
   by-type seq id o a Deallocate =
-      choose (λ (e : Effect). Fits s e (tookBack (id .0))) (isHeld (allocPlace allocs id)) _ _ (λ h. (o, a, h, refl)) (λ h n. none-taken id n a h)
-  by-type seq id o a OtherChange = λ n. refl
+      choose (λ (e : Effect). Fits s e (tookBack (id .0))) (isHeld (allocPlace allocs id)) _ _ (λ h. ((o, a, h, refl), (λ i. refl)))
+      (λ h. ((λ n. none-taken id n a h), (λ i. refl)))
+  by-type seq id o a OtherChange = still
 
   assign-alloc
       : (b : Bool) (seq : ℕ) (id : AllocId) (change : AllocChange)
@@ -317,9 +368,9 @@ module _ (s : Station) (f : Fine (ownOf s)) where
           → (z : Bool) → ltb (s .link .owed .count) mostOwed ≡ z
           → Fits s (fitting (s .link .owed) (cond x (cond y (allocChange allocs seq id change) (answers Keep ParameterError seq)) ignored))
           (cond (x && (y && z)) (byType allocs id change) neither)
-      go false h y k z e = λ n. refl
-      go true h false k z e = quiet-fits (s .link .owed) (answers Keep ParameterError seq) (λ n. refl)
-      go true h true k false e = rw (fitting-is false e) (λ n. refl)
+      go false h y k z e = still
+      go true h false k z e = quiet-fits (s .link .owed) (answers Keep ParameterError seq) still
+      go true h true k false e = rw (fitting-is false e) still
       go true h true k true e =
           rw (fitting-is true e) (by-type seq id (in-o5 (s .activation) (both (not b) _ h .1)) k change)
 
@@ -327,10 +378,9 @@ module _ (s : Station) (f : Fine (ownOf s)) where
 
   by-content
       : (b : Bool) (seq : ℕ) (c : Content)
-      → Fits s (fitting (s .link .owed) (decided.byContent s b seq c)) (byContent s b c)
+      → Writes s (fitting (s .link .owed) (decided.byContent s b seq c)) (byContent s b c) (toldBy s b c)
   unfolding byDisable
-  by-content b seq (Profile index parity) =
-      quiet-fits (s .link .owed) (profile (stateNumber (s .activation)) b seq index parity) (profile-quiet b seq index parity)
+  by-content b seq (Profile index parity) = profile-fits b seq index parity
   by-content b seq (AssignOnuId onu serial) = assign-onu (s .link .owed) b onu serial
   by-content b seq (RangingTime way amount) =
       quiet-fits (s .link .owed) (rangingTime (stateNumber (s .activation)) b (s .link .delay) seq way amount) (ranging-quiet b (s .link .delay) seq way amount)
@@ -339,29 +389,35 @@ module _ (s : Station) (f : Fine (ownOf s)) where
   by-content b seq RequestRegistration =
       quiet-fits (s .link .owed) (requestRegistration (stateNumber (s .activation)) b seq) (request-quiet b seq)
   by-content b seq (AssignAllocId id change) = assign-alloc b seq id change
-  by-content b seq KeyControl = λ n. refl
-  by-content b seq SleepAllow = λ n. refl
+  by-content b seq KeyControl = still
+  by-content b seq SleepAllow = still
   by-content b seq (Unknown type) =
       quiet-fits (s .link .owed) (unknownType (stateNumber (s .activation)) b seq) (unknown-quiet b seq)
 
-  did-nothing : Did s s neither
-  did-nothing = record { change = Keep; is = refl; allowed = λ n. refl }
+  did-nothing : Did s s neither untold
+  did-nothing = record { change = Keep; is = refl; allowed = λ n. refl; noted = λ i. refl }
 
   -- a message that is heard out: address and integrity are right
-  heard : (m : List ℕ) → Did s (acting s true (Whole (messageOf m))) (cond (isOurs s (messageOf m)) (byContent s (isBroadcast (messageOf m)) (contentOf m)) neither)
+  heard
+      : (m : List ℕ)
+      → Did s (acting s true (Whole (messageOf m))) (cond (isOurs s (messageOf m)) (byContent s (isBroadcast (messageOf m)) (contentOf m)) neither)
+      (withNumbers (cond (isOurs s (messageOf m)) (byContent s (isBroadcast (messageOf m)) (contentOf m)) neither)
+      (cond (isOurs s (messageOf m)) (toldBy s (isBroadcast (messageOf m)) (contentOf m)) untold))
   unfolding act effectOf
   heard m = go (isOurs s (messageOf m))
     where
       e : Effect
       e = fitting (s .link .owed) (effectOf s (messageOf m))
 
-      go : (x : Bool) → Did s (cond x (applied s e) s) (cond x (byContent s (isBroadcast (messageOf m)) (contentOf m)) neither)
-      go true =
-          record {
-            change = e .change;
-            is = applied-turns s e;
-            allowed = by-content (isBroadcast (messageOf m)) (messageOf m .seq) (contentOf m);
-          }
+      written : Writes s e (byContent s (isBroadcast (messageOf m)) (contentOf m)) (toldBy s (isBroadcast (messageOf m)) (contentOf m))
+      written = by-content (isBroadcast (messageOf m)) (messageOf m .seq) (contentOf m)
+
+      go
+          : (x : Bool)
+          → Did s (cond x (applied s e) s) (cond x (byContent s (isBroadcast (messageOf m)) (contentOf m)) neither)
+          (withNumbers (cond x (byContent s (isBroadcast (messageOf m)) (contentOf m)) neither)
+          (cond x (toldBy s (isBroadcast (messageOf m)) (contentOf m)) untold))
+      go true = record { change = e .change; is = applied-turns s e; allowed = written .0; noted = written .1 }
       go false = did-nothing
 
   unheard : (r : Received) → acting s false r ≡ s
@@ -375,8 +431,9 @@ genuine-whole key m e =
     let k = leb-true messageOctets (length m) (both (leb messageOctets (length m)) _ e .0) in
     rw (le-ltb (length m) messageOctets k)
 
-pub message-did : (s : Station) → Fine (ownOf s) → (m : List ℕ) → Did s (receive s m) (byMessage s m)
-unfolding receive byMessage heeds
+pub message-did
+    : (s : Station) → Fine (ownOf s) → (m : List ℕ) → Did s (receive s m) (byMessage s m) (withNumbers (byMessage s m) (noteBy s m))
+unfolding receive byMessage noteBy heeds
 message-did s f m = go (genuine (installedKey (s .link .key .held) (s .link .key .octets)) m) refl
   where
     never : (b : Bool) → (b && false) ≡ false
@@ -390,5 +447,7 @@ message-did s f m = go (genuine (installedKey (s .link .key .held) (s .link .key
     go
         : (g : Bool) → genuine (installedKey (s .link .key .held) (s .link .key .octets)) m ≡ g
         → Did s (acting s g (received m)) (cond (isOurs s (messageOf m) && g) (byContent s (isBroadcast (messageOf m)) (contentOf m)) neither)
+        (withNumbers (cond (isOurs s (messageOf m) && g) (byContent s (isBroadcast (messageOf m)) (contentOf m)) neither)
+        (cond (isOurs s (messageOf m) && g) (toldBy s (isBroadcast (messageOf m)) (contentOf m)) untold))
     go true e = rw (genuine-whole (installedKey (s .link .key .held) (s .link .key .octets)) m e, always (isOurs s (messageOf m))) (heard s f m)
     go false e = rw (never (isOurs s (messageOf m)), unheard s f (received m)) (did-nothing s f)

@@ -10,6 +10,7 @@ use Rattle.station.specs.declared.Activation.the-variants.{Initial, SerialNumbe
 use Rattle.station.specs.declared.Station.{Station}
 use Rattle.station.specs.States.{holdsIdentity, o4}
 use Rattle.station.specs.Station.{powerOn}
+use Rattle.link.specs.Profiles.{parityAt}
 use Rattle.validity.specs.Ranges.{identityFits, allocsFit}
 use Rattle.messages.specs.Receiving.{receive}
 use Rattle.entries.specs.declared.Own.{Own}
@@ -20,10 +21,12 @@ use Rattle.ledger.specs.Entries.{Entry, neither}
 use Rattle.ledger.specs.Messages.{byMessage}
 use Rattle.ledger.specs.Times.{o6, countsTo1, countsTo2, counted, to1Ends, to2Ends}
 use Rattle.ledger.specs.Ledger.{entryOf, ledger, holds}
-use Rattle.ledger.specs.Promises.{Exact, Timed}
+use Rattle.ledger.specs.Profiles.{untold, noteBy, withNumbers, noteOf, profileIn}
+use Rattle.ledger.specs.Promises.{Exact, ExactProfiles, Timed}
 use Rattle.ledger.specs.Plan.{ownOf}
 use Rattle.ledger.proofs.Book.{stands, in-stands, stands-in, posted-alike}
 use Rattle.ledger.proofs.Turns.{holdsOwn, Fine, stays, turned, Allowed, turn-fine, turn-held}
+use Rattle.ledger.proofs.Notes.{none-told, noted-alike}
 use Rattle.ledger.proofs.Quiet.{reply-quiet, ports-quiet, carried-quiet, add-quiet, remove-quiet, key-quiet}
 use Rattle.ledger.proofs.Messages.{turnOf, message-did}
 use Rattle.ledger.proofs.Times.{TimedIn, stay, Move, same-stay, frame-end-moves, lost-moves, unread-moves}
@@ -37,6 +40,8 @@ pub record Kept (first : Station) (h : List Event) : Type 0 where
   pub timed : TimedIn (stationOf first h .activation) (counted o4 countsTo1 first h) (counted o6 countsTo2 first h)
   -- the ledger is what is held
   pub exact : (n : ℕ) → stands (ledger first h) n ≡ holds (stationOf first h) n
+  -- and so is the ledger of profiles
+  pub told : ExactProfiles first h
 
 -- ---- messages
 
@@ -64,13 +69,14 @@ module _ (s : Station) (c1 c2 : ℕ) (p : TimedIn (s .activation) c1 c2) where
 
   message-moves
       : (f : Fine (ownOf s)) (m : List ℕ)
-      → Move s (receive s m) (byMessage s m) (stay o4 (s .activation) c1 false) (stay o6 (s .activation) c2 false)
+      → Move s (receive s m) (byMessage s m) (withNumbers (byMessage s m) (noteBy s m)) (stay o4 (s .activation) c1 false) (stay o6 (s .activation) c2 false)
   message-moves f m =
       let d = message-did s f m in
       record {
         turn = turnOf (d .change);
         is = d .is;
         allowed = d .allowed;
+        noted = d .noted;
         timed =
             rw (ap (λ (o : Own). o .activation) (d .is)) (change-timed (byMessage s m) (d .change) (d .allowed));
       }
@@ -79,12 +85,13 @@ module _ (s : Station) (c1 c2 : ℕ) (p : TimedIn (s .activation) c1 c2) where
 
   quiet-moves
       : (t : Station) → ownOf t ≡ ownOf s
-      → Move s t neither (stay o4 (s .activation) c1 false) (stay o6 (s .activation) c2 false)
+      → Move s t neither untold (stay o4 (s .activation) c1 false) (stay o6 (s .activation) c2 false)
   quiet-moves t e =
       record {
         turn = stays;
         is = e;
         allowed = λ n. refl;
+        noted = λ i. refl;
         timed = rw (ap (λ (o : Own). o .activation) e) (same-stay (s .activation) c1 c2 p);
       }
 
@@ -101,7 +108,7 @@ module _ (first : Station) (h : List Event) (k : Kept first h) where
   c2 = counted o6 countsTo2 first h
 
   pub moves
-      : (e : Event) → Move s (after s e) (entryOf first h e) (counted o4 countsTo1 first (e ∷ h)) (counted o6 countsTo2 first (e ∷ h))
+      : (e : Event) → Move s (after s e) (entryOf first h e) (noteOf first h e) (counted o4 countsTo1 first (e ∷ h)) (counted o6 countsTo2 first (e ∷ h))
   unfolding to1Ends to2Ends
   moves (considered m) = message-moves s c1 c2 (k .timed) (k .fine) m
   moves (ended b) = frame-end-moves s c1 c2 (k .fine) (k .timed) b
@@ -128,17 +135,20 @@ module _ (first : Station) (h : List Event) (k : Kept first h) where
             posted-alike x (stands (ledger first h)) (holdsOwn o) n (k .exact n)
             ∙ sym (turn-held o (k .fine) (m .turn) x (m .allowed) n)
             ∙ sym (ap (λ (q : Own). holdsOwn q n) (m .is));
+        told = λ i.
+            ap (λ (q : Own). parityAt (q .profiles) i) (m .is) ∙ m .noted i
+            ∙ noted-alike (noteOf first h e) (parityAt (s .link .profiles)) (profileIn first h) i (k .told i);
       }
 
 -- ---- the whole run
 
 starts-fine : (serial registration : List ℕ) → Fine (ownOf (powerOn serial registration))
 unfolding identityFits allocsFit
-starts-fine serial registration = record { long = refl; fit = refl; identity = refl; bare = λ h. refl }
+starts-fine serial registration = record { long = refl; fit = refl; identity = refl; bare = λ h. refl; four = refl; unheard = λ h. refl }
 
 pub starts : (serial registration : List ℕ) → Kept (powerOn serial registration) []
 unfolding holds
-starts serial registration = record { fine = starts-fine serial registration; timed = tt; exact = λ n. refl }
+starts serial registration = record { fine = starts-fine serial registration; timed = tt; exact = λ n. refl; told = none-told }
 
 pub always : (serial registration : List ℕ) (h : List Event) → Kept (powerOn serial registration) h
 always serial registration [] = starts serial registration
@@ -151,6 +161,10 @@ exactly first h k n =
 
 pub ledger-exact : (serial registration : List ℕ) (h : List Event) → Exact (powerOn serial registration) h
 ledger-exact serial registration h = exactly (powerOn serial registration) h (always serial registration h)
+
+-- what is held of each profile is what the ledger of profiles has
+pub profiles-exact : (serial registration : List ℕ) (h : List Event) → ExactProfiles (powerOn serial registration) h
+profiles-exact serial registration h = always serial registration h .told
 
 -- what is counted over the history is what the timers have run
 timed-agrees : (first : Station) (h : List Event) → Kept first h → Timed first h

@@ -5,18 +5,19 @@ use mathlib.Core.Path.{_≡_, _∙_, refl, sym, ap}
 use mathlib.Core.Bool.{Bool, true, false, _&&_, _||_, not, true≢false}
 use native.Mathlib.Omega.{arith}
 use lib.Dec.{eqb, leb}
-use lib.ListN.{length}
+use lib.ListN.{length, length-set}
 use borrow.Author.Tests.{eqb-true, ne-eqb, leb-true}
 use Rattle.ids.specs.declared.OnuId.{OnuId}
 use Rattle.ids.specs.declared.AllocId.{AllocId}
 use Rattle.ids.specs.Ids.{assignableOnu, assignableAlloc, broadcastOnu}
 use Rattle.station.specs.declared.Activation.{Activation}
 use Rattle.station.specs.declared.Activation.the-variants.{Initial, SerialNumber, Ranging, Operation, Intermittent, EmergencyStop}
-use Rattle.link.specs.Limits.{addedAllocs}
+use Rattle.link.specs.declared.Profiles.{Profiles}
+use Rattle.link.specs.Limits.{addedAllocs, profiles}
 use Rattle.station.specs.Limits.{to1}
 use Rattle.station.specs.States.{holdsIdentity}
-use Rattle.link.specs.Profiles.{noProfiles, setProfile}
 use Rattle.link.specs.Link.{noAllocs, heldAllocs, allocPlace, addAlloc, removeAlloc}
+use Rattle.link.specs.Profiles.{profileIndex, received, noProfiles, setProfile}
 use Rattle.validity.specs.Ranges.{identityFits, allocsFit}
 use Rattle.entries.specs.declared.Own.{Own}
 use Rattle.ids.specs.Places.{isHeld}
@@ -41,12 +42,23 @@ mayHold Operation = true
 mayHold (Intermittent left) = true
 mayHold EmergencyStop = false
 
--- what is held is in range, and no Alloc-ID is held outside O5 and O6
+-- the states in which profiles can be held: all but O1 and O7
+abbrev pub mayHear : Activation → Bool
+mayHear Initial = false
+mayHear SerialNumber = true
+mayHear (Ranging left) = true
+mayHear Operation = true
+mayHear (Intermittent left) = true
+mayHear EmergencyStop = false
+
+-- what is held is in range, no Alloc-ID is held outside O5 and O6, and no profile in O1 and O7
 pub record Fine (o : Own) : Type 0 where
   pub long : length (o .allocs .ids) ≡ addedAllocs
   pub fit : allocsFit (o .allocs) ≡ true
   pub identity : identityFits (o .activation) (o .onu) ≡ true
   pub bare : mayHold (o .activation) ≡ false → o .allocs ≡ noAllocs
+  pub four : length (o .profiles .held) ≡ profiles
+  pub unheard : mayHear (o .activation) ≡ false → o .profiles ≡ noProfiles
 
 pub data Turn : Type 0 where
   stays : Turn
@@ -80,7 +92,7 @@ Allowed o (adds id) x =
     × (x ≡ gave (id .0))
 Allowed o (drops id) x =
     (o .activation ≡ Operation) × (assignableAlloc id ≡ true) × (isHeld (allocPlace (o .allocs) id) ≡ true) × (x ≡ tookBack (id .0))
-Allowed o (hears index parity) x = (n : ℕ) → posted x (holdsOwn o) n ≡ holdsOwn o n
+Allowed o (hears index parity) x = (mayHear (o .activation) ≡ true) × (x ≡ neither)
 Allowed o (forgets a) x = (holdsIdentity a ≡ false) × ((n : ℕ) → posted x (holdsOwn o) n ≡ false)
 
 -- ---- what is held stays in range
@@ -92,6 +104,18 @@ unidentified (Ranging left) h = refl
 unidentified Operation h = h
 unidentified (Intermittent left) h = h
 unidentified EmergencyStop h = refl
+
+unheard-unidentified : (a : Activation) → mayHear a ≡ false → holdsIdentity a ≡ false
+unheard-unidentified Initial h = refl
+unheard-unidentified SerialNumber h = refl
+unheard-unidentified (Ranging left) h = h
+unheard-unidentified Operation h = h
+unheard-unidentified (Intermittent left) h = h
+unheard-unidentified EmergencyStop h = refl
+
+still-four : (p : Profiles) (index : ℕ) (parity : Bool) → length (p .held) ≡ profiles → length (setProfile p index parity .held) ≡ profiles
+unfolding setProfile
+still-four p index parity l = length-set (p .held) (profileIndex index) (received parity) ∙ l
 
 nobody : (a : Activation) → holdsIdentity a ≡ false → identityFits a broadcastOnu ≡ true
 unfolding identityFits
@@ -113,6 +137,8 @@ turn-fine o f (named onu) x p =
       fit = f .fit;
       identity = named-fits onu (p .1);
       bare = λ h. f .bare (ap mayHold (p .0));
+      four = f .four;
+      unheard = λ h. absurd (true≢false h);
     }
 turn-fine o f (goes a) x p =
     record {
@@ -120,6 +146,8 @@ turn-fine o f (goes a) x p =
       fit = f .fit;
       identity = identity-moves (o .activation) a (o .onu) (p .0) (p .1) (f .identity);
       bare = λ h. f .bare (p .2 h);
+      four = f .four;
+      unheard = λ h. absurd (true≢false (sym (p .1) ∙ unheard-unidentified a h));
     }
 turn-fine o f (adds id) x p =
     let a = added (o .allocs) (f .long) (f .fit) id (p .1) (p .2) in
@@ -128,6 +156,8 @@ turn-fine o f (adds id) x p =
       fit = a .0;
       identity = f .identity;
       bare = λ h. absurd (true≢false (sym (ap mayHold (p .0)) ∙ h));
+      four = f .four;
+      unheard = f .unheard;
     }
 turn-fine o f (drops id) x p =
     let a = removed (o .allocs) (f .long) (f .fit) id (allocPlace (o .allocs) id) refl in
@@ -136,10 +166,20 @@ turn-fine o f (drops id) x p =
       fit = a .0;
       identity = f .identity;
       bare = λ h. absurd (true≢false (sym (ap mayHold (p .0)) ∙ h));
+      four = f .four;
+      unheard = f .unheard;
     }
-turn-fine o f (hears index parity) x p = record { long = f .long; fit = f .fit; identity = f .identity; bare = f .bare }
+turn-fine o f (hears index parity) x p =
+    record {
+      long = f .long;
+      fit = f .fit;
+      identity = f .identity;
+      bare = f .bare;
+      four = still-four (o .profiles) index parity (f .four);
+      unheard = λ h. absurd (true≢false (sym (p .0) ∙ h));
+    }
 turn-fine o f (forgets a) x p =
-    record { long = refl; fit = no-allocs-fit; identity = nobody a (p .0); bare = λ h. refl }
+    record { long = refl; fit = no-allocs-fit; identity = nobody a (p .0); bare = λ h. refl; four = refl; unheard = λ h. refl }
 
 -- ---- what is held after the turn is what the entry says
 
@@ -177,5 +217,5 @@ turn-held o f (adds id) x p n =
 turn-held o f (drops id) x p n =
     rw (p .3, removed-among (o .allocs) id n (f .long) (f .fit) (p .2))
     (taken (eqb n (id .0)) (holdsIdentity (o .activation) && eqb n (o .onu .0)) (among (heldAllocs (o .allocs)) n) (apart o f id (p .1) n))
-turn-held o f (hears index parity) x p n = sym (p n)
+turn-held o f (hears index parity) x p n = rw (p .1)
 turn-held o f (forgets a) x p n = rw (p .0, p .1 n)

@@ -3,5 +3,6 @@ pub mod Entries
 pub mod Messages
 pub mod Times
 pub mod Ledger
+pub mod Profiles
 pub mod Promises
 pub mod Plan

@@ -9,11 +9,13 @@ use lib.ListN.{length}
 use Rattle.ids.specs.declared.AllocId.{AllocId}
 use Rattle.ids.specs.Ids.{assignableAlloc, sameAlloc}
 use Rattle.ploam.specs.Layout.{number16}
-use Rattle.station.specs.declared.Activation.the-variants.{Ranging, Operation, Intermittent}
+use Rattle.station.specs.declared.Activation.the-variants.{Initial, SerialNumber, Ranging, Operation, Intermittent, EmergencyStop}
 use Rattle.station.specs.declared.Station.{Station}
 use Rattle.station.specs.Limits.{to1, to2}
 use Rattle.station.specs.States.{o4}
+use Rattle.link.specs.declared.Parity.{Parity}
 use Rattle.link.specs.Link.{heldAllocs, allocPlace}
+use Rattle.link.specs.Profiles.{noProfiles, parityAt}
 use Rattle.validity.specs.Ranges.{proper}
 use Rattle.ids.specs.Places.{isHeld}
 use Rattle.ledger.specs.Events.{Event, considered, ended, unread, lost, stationOf}
@@ -21,6 +23,7 @@ use Rattle.ledger.specs.Entries.{Entry, gave, neither, takesBack}
 use Rattle.ledger.specs.Messages.{byMessage}
 use Rattle.ledger.specs.Times.{o6, countsTo1, countsTo2, counted}
 use Rattle.ledger.specs.Ledger.{entryOf, ledger, InLedger, holds}
+use Rattle.ledger.specs.Profiles.{profileIn}
 
 -- a ledger is exactly the ONU-ID and the Alloc-IDs that a station holds
 abbrev pub Holds : List Entry → Station → Type 0
@@ -28,6 +31,21 @@ Holds entries s = (n : ℕ) → InLedger entries n ↔ (holds s n ≡ true)
 
 abbrev pub Exact : Station → List Event → Type 0
 Exact first h = Holds (ledger first h) (stationOf first h)
+
+-- a ledger of profiles is exactly what a station holds of each index: what accepted Profiles gave and nothing took back
+abbrev pub HoldsProfiles : (ℕ → Parity) → Station → Type 0
+HoldsProfiles known s = (i : ℕ) → parityAt (s .link .profiles) i ≡ known i
+
+abbrev pub ExactProfiles : Station → List Event → Type 0
+ExactProfiles first h = HoldsProfiles (profileIn first h) (stationOf first h)
+
+-- "Profiles are forgotten wherever the ONU-ID is": in O1, in O7 and just after entering O2-3 none is held
+pub record Unheard (first : Station) (h : List Event) : Type 0 where
+  pub in-o1 : stationOf first h .activation ≡ Initial → stationOf first h .link .profiles ≡ noProfiles
+  pub in-o7 : stationOf first h .activation ≡ EmergencyStop → stationOf first h .link .profiles ≡ noProfiles
+  pub entering-o23
+      : (e : Event) → (stationOf first h .activation ≡ SerialNumber → ⊥) → stationOf first (e ∷ h) .activation ≡ SerialNumber
+      → stationOf first (e ∷ h) .link .profiles ≡ noProfiles
 
 -- none of the events since took n back
 abbrev pub Untaken : Station → ℕ → List Event → List Event → Type 0

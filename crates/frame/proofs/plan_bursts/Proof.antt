@@ -19,8 +19,8 @@ same-length c = search needs
 
 returns : tie.Need-returns
 returns c =
-    let a = c .before .before .before .before .before .before .before .before .before .before .args in
-    let p = planned-fully (ownOf (a .s)) (now (a .map)) (a .s .carried) (now (a .plan)) (c .before .before .before .plan-map .result) _ (c .before .before .before .before .before .before .before .before .before .before .pre) (c .before .before .before .plan-map .ensures) in
+    let a = c .before .before .before .before .before .before .before .before .before .before .before .args in
+    let p = planned-fully (ownOf (a .s)) (now (a .map)) (a .s .carried) (now (a .plan)) (c .before .before .before .plan-map .result) _ (c .before .before .before .before .before .before .before .before .before .before .before .pre) (c .before .before .before .plan-map .ensures) in
     (c .plan-of .ensures ∙ p .0, p .1)
 
 pub plan-bursts-spec : {M : Type 1} → statement M

@@ -36,16 +36,16 @@ same-length c = search needs
 
 returns : tie.Need-returns
 returns c =
-    let a = c .before .before .before .before .before .before .before .before .before .before .before .before .before .before .args in
-    all-named (a .s) (a .h) (now (a .frame)) (now (a .names)) _ _ _ (map-part (a .h) (now (a .frame)) _ (c .before .before .before .before .before .before .before .before .before .before .before .map-end .ensures)) (c .before .before .before .before .before .before .before .before .before .before .before .before .before .before .pre .0) (c .before .before .before .before .before .before .before .before .before .before .before .before .before .before .pre .1) (c .before .before .before .before .before .before .before .before .before .before .before .before .before .before .pre .2) (c .before .before .before .before .before .name-map .ensures) _ (c .before .n .given .1)
+    let a = c .before .before .before .before .before .before .before .before .before .before .before .before .before .before .before .args in
+    all-named (a .s) (a .h) (now (a .frame)) (now (a .names)) _ _ _ (map-part (a .h) (now (a .frame)) _ (c .before .before .before .before .before .before .before .before .before .before .before .before .map-end .ensures)) (c .before .before .before .before .before .before .before .before .before .before .before .before .before .before .before .pre .0) (c .before .before .before .before .before .before .before .before .before .before .before .before .before .before .before .pre .1) (c .before .before .before .before .before .before .before .before .before .before .before .before .before .before .before .pre .2) (c .before .before .before .before .before .name-map .ensures) _ (c .before .n .given .1)
 
 same-length-2 : tie.Need-same-length-2
 same-length-2 c = search needs
 
 returns-2 : tie.Need-returns-2
 returns-2 c =
-    let a = c .before .before .before .before .before .before .before .before .before .before .before .before .before .before .args in
-    never-short (a .s) (a .h) (now (a .frame)) (now (a .names)) _ _ _ (map-part (a .h) (now (a .frame)) _ (c .before .before .before .before .before .before .before .before .before .before .before .map-end .ensures)) (c .before .before .before .before .before .before .before .before .before .before .before .before .before .before .pre .0) (c .before .before .before .before .before .before .before .before .before .before .before .before .before .before .pre .1) (c .before .before .before .before .before .before .before .before .before .before .before .before .before .before .pre .2) (c .before .before .before .before .before .name-map .ensures) (c .before .enum-told .given .1)
+    let a = c .before .before .before .before .before .before .before .before .before .before .before .before .before .before .before .args in
+    never-short (a .s) (a .h) (now (a .frame)) (now (a .names)) _ _ _ (map-part (a .h) (now (a .frame)) _ (c .before .before .before .before .before .before .before .before .before .before .before .before .map-end .ensures)) (c .before .before .before .before .before .before .before .before .before .before .before .before .before .before .before .pre .0) (c .before .before .before .before .before .before .before .before .before .before .before .before .before .before .before .pre .1) (c .before .before .before .before .before .before .before .before .before .before .before .before .before .before .before .pre .2) (c .before .before .before .before .before .name-map .ensures) (c .before .enum-told .given .1)
 
 pub named-in-spec : {M : Type 1} → statement M
 named-in-spec =
