@@ -2,7 +2,8 @@
  *
  * A station's run: lingbarrow_power_on once; then for each frame time of 125 us lingbarrow_frame, or lingbarrow_lost; ports and the key
  * at any time between. Each call gets the state and the port memory as the last one left them: they are the station's own.
- * A stretch of a frame is asked for BEFORE that frame's lingbarrow_frame: see lingbarrow_stretch, lingbarrow_stretches.
+ * A stretch of a frame is asked for BEFORE that frame's lingbarrow_frame: see lingbarrow_stretch, lingbarrow_stretches. So is why a
+ * structure of its map stays dark: see lingbarrow_why_dark.
  *
  * Every call answers for every content of every buffer: nothing that the bytes or the lengths say is undefined behaviour. What
  * C must grant, and no code can test:
@@ -27,7 +28,7 @@
 #error "Lingbarrow is code for 64-bit x86-64 Linux; define LINGBARROW_ANY_TARGET to check syntax for another target"
 #endif
 
-#define LINGBARROW_VERSION "0.3.0"
+#define LINGBARROW_VERSION "0.4.0"
 #define LINGBARROW_VERSION_MAJOR 0
 #define LINGBARROW_VERSION_MINOR 3
 #define LINGBARROW_VERSION_PATCH 0
@@ -49,6 +50,8 @@ extern "C" {
 #define LINGBARROW_PLACE 2
 #define LINGBARROW_PLACES(frame_bytes) ((size_t)(frame_bytes) / 8) /* of all stretches: an SDU takes 16 bytes of the frame at least, and two numbers */
 #define LINGBARROW_STRETCH_COUNTS 1
+#define LINGBARROW_NAMES 2047 /* of a map's structures: HLend can count so many */
+#define LINGBARROW_NAME_COUNTS 1
 #define LINGBARROW_FRAME_MOST 135432  /* a frame has 4 bytes to so many, a multiple of 4 */
 #define LINGBARROW_DELAY_MOST 119439  /* bit times, 48 us: a longer random delay counts as this */
 
@@ -85,9 +88,23 @@ extern "C" {
 #define LINGBARROW_O6 6
 #define LINGBARROW_O7 7
 
+/* What became of a structure of the map, as lingbarrow_why_dark names it: the first of these that is so, but for the last, which comes
+ * before all. The last three but one are of a whole burst, and each of its structures has the burst's name. */
+#define LINGBARROW_NAME_PLANNED 0
+#define LINGBARROW_NAME_UNREADABLE 1         /* no true word is near */
+#define LINGBARROW_NAME_START_TIME_UNFIT 2   /* 9720 to 65534 */
+#define LINGBARROW_NAME_DBRU_WITHOUT_ROOM 3  /* DBRu with GrantSize 0 */
+#define LINGBARROW_NAME_FOREIGN 4            /* not ours in this state: another's Alloc-ID, or a grant that this state does not take */
+#define LINGBARROW_NAME_CONTINUING_NOTHING 5 /* ours and continuing, behind an entry of no burst of ours */
+#define LINGBARROW_NAME_SEVENTEENTH 6        /* ours and continuing, straight behind the sixteen of a burst */
+#define LINGBARROW_NAME_TOO_LONG 7           /* a burst of more than 9720 words */
+#define LINGBARROW_NAME_OVERLAPPING 8        /* a burst that starts before the last planned one has ended */
+#define LINGBARROW_NAME_AFTER_THE_FOURTH 9   /* a burst behind four planned ones */
+#define LINGBARROW_NAME_SILENT 10            /* a state that sends nothing: O1, O6, O7 */
+
 /* Answers, tested in the order of the numbers: of all that is wrong the lowest number is answered. Only a state that is too short is
- * answered 3 before all else: there are no bytes to test. After 1, 2, 3 and 7 to 11 nothing is changed, except that the frame call and
- * the stretches set their numbers to 0 where these have room. */
+ * answered 3 before all else: there are no bytes to test. After 1, 2, 3 and 7 to 11 nothing is changed, except that the frame call, the
+ * stretches and the names set their numbers to 0 where these have room. */
 #define LINGBARROW_DONE 0
 #define LINGBARROW_STATE_OUT_OF_RANGE 1 /* also: bytes that are no state's */
 #define LINGBARROW_FRAME_LENGTH 2
@@ -145,6 +162,7 @@ extern "C" {
 #define LINGBARROW_STACK_GIVE_KEY 1584
 #define LINGBARROW_STACK_STRETCH 1120
 #define LINGBARROW_STACK_STRETCHES 1136
+#define LINGBARROW_STACK_WHY_DARK 1248
 #define LINGBARROW_STACK_WRITE_HLEND 160
 #define LINGBARROW_STACK_WRITE_ALLOCATION 192
 #define LINGBARROW_STACK_WRITE_XGEM_FRAME 208
@@ -172,6 +190,13 @@ uint8_t lingbarrow_stretch(const uint8_t *state, size_t state_length, const uint
  * BEFORE the frame call too. */
 uint8_t lingbarrow_stretches(const uint8_t *state, size_t state_length, const uint8_t *frame, size_t frame_length,
                              size_t *places, size_t places_length, size_t *counts, size_t counts_length);
+
+/* What became of each structure of the frame's map: `names` gets one LINGBARROW_NAME_.. for each, in map order, and `counts` how many
+ * there are. 0 to 5; 3 is about `state`, a list of fewer than LINGBARROW_NAMES and `counts`. After 1 to 5 `names` is as it was and the
+ * count 0; past what is written `names` is as it was. The structures named planned are those of the records that lingbarrow_frame
+ * writes, in their order. BEFORE the frame call too: the frame's own messages count for nothing. */
+uint8_t lingbarrow_why_dark(const uint8_t *state, size_t state_length, const uint8_t *frame, size_t frame_length, uint8_t *names,
+                            size_t names_length, size_t *counts, size_t counts_length);
 
 /* A frame has arrived, descrambled and error-corrected, and without PSBd: its first byte is HLend's. 0 to 6.
  *

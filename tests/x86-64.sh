@@ -38,7 +38,7 @@ library() {
 }
 
 # Of the customer's requests the independent engine is built with the first so many: those that have landed here.
-peer_level=0
+peer_level=1
 
 # peer_program NAME FOLDER [WORDS...]: FOLDER/NAME, of bench/src/NAME.rs and the independent engine, as that engine's own release
 # profile has it: a yardstick built with less would flatter what is held against it.

@@ -23,6 +23,7 @@ extern "C" {
     pub fn lingbarrow_give_key(s: *mut u8, sn: usize, k: *const u8, kn: usize) -> u8;
     pub fn lingbarrow_stretch(s: *const u8, sn: usize, f: *const u8, f_n: usize, k: usize, p: *mut usize, pn: usize) -> u8;
     pub fn lingbarrow_stretches(s: *const u8, sn: usize, f: *const u8, f_n: usize, p: *mut usize, pn: usize, c: *mut usize, cn: usize) -> u8;
+    pub fn lingbarrow_why_dark(s: *const u8, sn: usize, f: *const u8, f_n: usize, n: *mut u8, nn: usize, c: *mut usize, cn: usize) -> u8;
 }
 
 /// The one form of a state, in the order of crates/layout/specs/Offsets.antt.

@@ -161,6 +161,28 @@ fn measure_stretches(name: &str, s: &Station, f: &[u8], count: usize) {
     line(name, || { black_box(stretch(black_box(s), black_box(f), count - 1)); }, || { black_box(places(&octets, f, &mut list)); });
 }
 
+fn names(s: &[u8; STATE], f: &[u8], names: &mut [u8]) -> (u8, usize) {
+    let (f, mut count) = (black_box(f), [7]);
+    let answer = unsafe { lingbarrow_why_dark(black_box(s).as_ptr(), STATE, f.as_ptr(), f.len(), names.as_mut_ptr(), names.len(), count.as_mut_ptr(), 1) };
+    (answer, count[0])
+}
+
+/// What became of each structure of the frame's map.
+fn measure_names(s: &Station, f: &[u8]) {
+    let octets = octets(s);
+    let (mut x, mut y) = ([77; 2047], [77; 2047]);
+    let (answer, count) = why_dark(s, f, &mut x);
+    assert_eq!(names(&octets, f, &mut y), (answer.number(), count));
+    assert_eq!(x, y);
+    line("    why dark", || { black_box(why_dark(black_box(s), black_box(f), &mut x)); }, || { black_box(names(&octets, f, &mut y)); });
+}
+
+/// A frame of a map: the frame call, and what became of each structure.
+fn measure_map(name: &str, s: &Station, f: &[u8]) {
+    measure(name, s, f);
+    measure_names(s, f);
+}
+
 fn sdus(size: usize) -> Frame {
     let mut f = Frame::new();
     for i in 0..(FRAME_MAX - 4) / (8 + layout::payload_bytes(size as u16)) {
@@ -203,15 +225,23 @@ fn main() {
     for i in 0..2047u16 {
         map = map.head(8000 + (rng.next() % 8000) as u16, false, 4 * i, 2);
     }
-    measure("2,047 foreign entries", &s, &map.bytes());
+    measure_map("2,047 foreign entries", &s, &map.bytes());
     let mut bent = map.clone();
     bent.map.iter_mut().for_each(|w| *w = rng.damaged(*w));
-    measure("2,047 foreign entries, two bits flipped in each", &s, &bent.bytes());
+    measure_map("2,047 foreign entries, two bits flipped in each", &s, &bent.bytes());
     let mut own = Frame::new();
     for i in 0..2047u16 {
         own = own.head(2000 + 37 * (i % 16), false, 0, if i == 0 { 9718 } else { 0 });
     }
-    measure("2,047 heads of ours, all but one passed over", &s, &own.bytes());
+    measure_map("2,047 heads of ours, all but one passed over", &s, &own.bytes());
+    let mut series = Frame::new();
+    for i in 0..2047u16 {
+        series = if i % 17 == 0 { series.head(5, false, 80 * (i / 17), 2) } else { series.next(2000 + 37 * (i % 16), false, 1) };
+    }
+    measure_map("2,047 entries of ours, in series of seventeen", &s, &series.bytes());
+    let mut silent = s.clone();
+    silent.activation = Activation::Intermittent(800);
+    measure_map("2,047 foreign entries, in O6", &silent, &map.bytes());
 
     for size in [1500, 64, 9] {
         let (f, count) = (sdus(size).full(), (FRAME_MAX - 4) / (8 + layout::payload_bytes(size as u16)));

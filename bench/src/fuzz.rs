@@ -9,7 +9,7 @@ use exported::*;
 use xgpon_peer::headend::{self, Frame};
 use xgpon_peer::limits::*;
 use xgpon_peer::ploam::Completion;
-use xgpon_peer::{frame, stretch, Activation, AllocId, Allocation, Lent, OnuId, Owed, PortId, Station};
+use xgpon_peer::{frame, stretch, why_dark, Activation, AllocId, Allocation, Lent, OnuId, Owed, PortId, Station};
 
 const COUNTS_BEFORE: [usize; 3] = [7, 7, 7];
 
@@ -58,8 +58,11 @@ fn make_frame(rng: &mut Rng, s: &Station) -> Vec<u8> {
         .chain(s.allocs.iter().take(s.alloc_count.min(16) as usize).map(|a| a.0 & 0x3FFF))
         .collect();
     let mut at = rng.below(200) as u16;
+    // in some maps series of ours go on until they are too long
+    let long = rng.once_in(6);
+    let ours: Vec<u16> = numbers.iter().copied().filter(|n| *n != 1023 && *n != 1022 && *n != 4711).collect();
     for _ in 0..rng.pick(&[0u64, 0, 1, 2, 3, 6, 20, 40, 40, 300]) {
-        let continues = rng.once_in(3);
+        let continues = if long { !rng.once_in(24) } else { rng.once_in(3) };
         let start = if continues {
             65535
         } else if rng.once_in(12) {
@@ -70,8 +73,8 @@ fn make_frame(rng: &mut Rng, s: &Station) -> Vec<u8> {
         let discovery = s.onu_id.0 == 1023 && !rng.once_in(4);
         let grant = if discovery { 0 } else { rng.pick(&[0, 0, 1, 5, 40, 200, 3000, 9718, 9719, 65535]) };
         let a = Allocation {
-            alloc: AllocId(if discovery { 1023 } else { rng.pick(&numbers) & 0x3FFF }),
-            dbru: rng.once_in(5),
+            alloc: AllocId(if discovery { 1023 } else { rng.pick(if long && !ours.is_empty() { &ours } else { &numbers }) & 0x3FFF }),
+            dbru: !long && rng.once_in(5),
             ploamu: discovery || rng.once_in(2),
             start,
             grant,
@@ -161,6 +164,27 @@ fn all_stretches(rng: &mut Rng, state: *const u8, peer: &Station, f: &[u8]) -> u
     found
 }
 
+/// What became of each structure of the frame's map, before its frame call: as the independent engine names it, and past the names the
+/// list is as it was. A list that is too short, or no room for the count, is answered 3 where 1 and 2 is not the answer. What is returned
+/// is how many are named planned.
+fn names(rng: &mut Rng, state: *const u8, peer: &Station, f: &[u8], named: &mut [u64; 11]) -> usize {
+    let call = |names: &mut [u8], count: &mut [usize]| unsafe {
+        lingbarrow_why_dark(state, STATE, f.as_ptr(), f.len(), names.as_mut_ptr(), names.len(), count.as_mut_ptr(), count.len())
+    };
+    let length = rng.pick(&[2047, 2047, 2047, 2048, 2050, 2046, 0]);
+    let (mut theirs, mut ours, mut count) = (vec![0xEE; length], vec![0xEE; length], [7; 2]);
+    let (said, found) = why_dark(peer, f, &mut theirs);
+    assert_eq!(call(&mut ours, &mut count), said.number(), "the names: the answer");
+    assert_eq!(count, [found, 7], "the names: the count");
+    assert!(ours == theirs, "the names");
+    ours[..found].iter().for_each(|name| named[usize::from(*name)] += 1);
+    let planned = ours[..found].iter().filter(|name| **name == 0).count();
+    let short = if said.number() == 1 || said.number() == 2 { said.number() } else { 3 };
+    assert_eq!(call(&mut ours, &mut []), short, "the names: no room for the count");
+    assert!(ours == theirs, "the names: no room for the count");
+    planned
+}
+
 /// How many deliveries stand in so many bytes.
 fn deliveries(mut of: &[u8]) -> usize {
     let mut count = 0;
@@ -193,7 +217,7 @@ fn main() {
     let mut args = std::env::args().skip(1).map(|a| a.parse::<u64>().expect("a number"));
     let calls = args.next().unwrap_or(200_000);
     let mut rng = Rng(args.next().unwrap_or(0x9E37_79B9_7F4A_7C15) | 1);
-    let (mut answers, mut kinds, mut states, mut written) = ([0u64; 12], [0u64; 6], [0u64; 8], [0usize; 3]);
+    let (mut answers, mut kinds, mut states, mut written, mut named) = ([0u64; 12], [0u64; 6], [0u64; 8], [0usize; 3], [0u64; 11]);
     let mut done = 0;
     while done < calls {
         let (serial, id) = ([rng.next() as u8; 8], [rng.next() as u8; 36]);
@@ -256,6 +280,9 @@ fn main() {
                     let (mut places, mut count) = ([7usize; 2], [7usize]);
                     let listed = unsafe { lingbarrow_stretches(s, STATE, f.as_ptr(), 4, places.as_mut_ptr(), 2, count.as_mut_ptr(), 1) };
                     assert_eq!((listed, places, count), (1, [7; 2], [0]), "a state out of range: all stretches");
+                    let mut name = [7u8];
+                    let listed = unsafe { lingbarrow_why_dark(s, STATE, f.as_ptr(), 6, name.as_mut_ptr(), 1, count.as_mut_ptr(), 1) };
+                    assert_eq!((listed, name, count), (1, [7], [0]), "a state out of range: names");
                     let again = |call: fn(&mut Station) -> xgpon_peer::Answer| {
                         let mut s = other.clone();
                         let answer = call(&mut s).number();
@@ -318,6 +345,7 @@ fn main() {
                     let [m, p, r, d] = lengths;
                     let mut counts = COUNTS_BEFORE;
                     let found = all_stretches(&mut rng, state, &peer, &f);
+                    let planned = names(&mut rng, state, &peer, &f, &mut named);
                     let out = frame(&mut peer, &f, delay, Lent {
                         memory: &mut theirs.memory[..m],
                         plan: &mut theirs.plan[..p],
@@ -333,6 +361,7 @@ fn main() {
                     assert_eq!(counts, [out.records, out.replies, out.delivered], "the counts");
                     if answer == 0 || answer == 6 {
                         assert_eq!(deliveries(&lent.deliveries[..out.delivered]), found, "as many stretches as deliveries");
+                        assert!(planned == 0 || planned == out.records, "as many planned names as records");
                     }
                     (0..3).for_each(|i| written[i] += counts[i]);
                     (answer, out.answer.number())
@@ -355,6 +384,7 @@ fn main() {
                     let f = make_frame(&mut rng, &peer);
                     let k = rng.below(4) as usize;
                     all_stretches(&mut rng, state, &peer, &f);
+                    names(&mut rng, state, &peer, &f, &mut named);
                     let mut place = [7usize; 2];
                     let answer = unsafe { lingbarrow_stretch(state, STATE, f.as_ptr(), f.len(), k, place.as_mut_ptr(), 2) };
                     let (said, part) = stretch(&peer, &f, k);
@@ -373,5 +403,6 @@ fn main() {
     }
     println!("fuzz: {done} calls the same; frames {}, lost {}, ports {} and {}, keys {}, stretches {}", kinds[0], kinds[1], kinds[2], kinds[3], kinds[4], kinds[5]);
     println!("fuzz: answers 0 to 10 {:?}, calls that left O1 to O7 {:?}", &answers[..11], &states[1..]);
+    println!("fuzz: structures named 0 to 10 {named:?}");
     println!("fuzz: {} plan records, {} replies, {} bytes delivered", written[0], written[1], written[2]);
 }

@@ -2,11 +2,12 @@
  *     P serial registration                 power-on
  *     F delay memory plan replies deliveries frame    a frame; how much is lent of each buffer; '-' for no bytes
  *     S number frame                        a stretch, before the frame call
+ *     V length frame                        the names of the map's structures, into so many bytes of EE, before the frame call
  *     L; A port; R port; K key              a lost frame time; add and remove a port; give the key
  *     WH length map messages; WA length alloc dbru ploamu start grant fwi profile; WX length key port options last sdu
  *         the writers, into so many bytes of EE
  * What comes back: answer; for stations the state, in brackets what it holds; for a frame its counts and CRC-32 over the whole of each
- * buffer; for a stretch its place; for a writer its target.
+ * buffer; for a stretch its place; for names their count and the names; for a writer its target.
  * Before each frame call, and with each stretch, all stretches of the frame are asked for too: they are those of the call for one. */
 #include "lingbarrow.h"
 #include <inttypes.h>
@@ -209,6 +210,33 @@ static void frame_call(void)
         plan_sum, crc(0, replies, sizeof replies), crc(0, deliveries, sizeof deliveries));
 }
 
+/* The call moves no state, past the count the list is as it was, and without room for the count nothing is changed. */
+static void why_dark(void)
+{
+    static uint8_t before[sizeof state];
+    size_t names_length = number(), length, count[LINGBARROW_NAME_COUNTS] = {5};
+    uint8_t *names = (uint8_t *)or_fail(malloc(names_length + 1)), answer;
+    const uint8_t *frame = octets(&length);
+
+    memset(names, 0xee, names_length);
+    memcpy(before, state, sizeof state);
+    answer = lingbarrow_why_dark(state, sizeof state, frame, length, names, names_length, count, 0);
+    if (count[0] != 5 || (answer != LINGBARROW_BUFFER_TOO_SHORT && answer != LINGBARROW_STATE_OUT_OF_RANGE && answer != LINGBARROW_FRAME_LENGTH))
+        fail("names without room for the count");
+    for (size_t i = 0; i < names_length; i++)
+        if (names[i] != 0xee)
+            fail("names are written without room for the count");
+    SAY("%d", lingbarrow_why_dark(state, sizeof state, frame, length, names, names_length, count, LINGBARROW_NAME_COUNTS));
+    if (memcmp(before, state, sizeof state))
+        fail("asking for names moves the state");
+    SAY(" %zu ", count[0]);
+    say_octets(names, count[0]);
+    for (size_t i = count[0]; i < names_length; i++)
+        if (names[i] != 0xee)
+            fail("the list past the names is not as it was");
+    free(names);
+}
+
 static void writer(char which)
 {
     size_t length = number(), sdu_length;
@@ -253,6 +281,7 @@ static void play(void)
         SAY(" %zu %zu", place[0], place[1]);
         return;
     }
+    case 'V': why_dark(); return;
     case 'L': SAY("%d", lingbarrow_lost(state, sizeof state)); break;
     case 'A': SAY("%d", lingbarrow_add_port(state, sizeof state, lingbarrow_port_id_of((uint16_t)number()))); break;
     case 'R': SAY("%d", lingbarrow_remove_port(state, sizeof state, lingbarrow_port_id_of((uint16_t)number()))); break;

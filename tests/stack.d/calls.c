@@ -19,6 +19,8 @@ const struct lengths whole = {
     LINGBARROW_PLACE,
     LINGBARROW_PLACES(LINGBARROW_FRAME_MOST),
     LINGBARROW_STRETCH_COUNTS,
+    LINGBARROW_NAMES,
+    LINGBARROW_NAME_COUNTS,
     TARGET,
     LINGBARROW_SERIAL_BYTES,
     LINGBARROW_REGISTRATION_BYTES,
@@ -92,6 +94,13 @@ static void stretches(void)
                                   lengths.stretch_counts);
 }
 
+static void why_dark(void)
+{
+    called_from = __builtin_frame_address(0);
+    answer = lingbarrow_why_dark(lent.state, lengths.state, frame, frame_length, lent.names, lengths.names, lent.name_counts,
+                                 lengths.name_counts);
+}
+
 static void write_hlend(void)
 {
     called_from = __builtin_frame_address(0);
@@ -130,6 +139,7 @@ static struct {
     [GIVE_KEY] = CALL(give_key, lingbarrow_give_key, LINGBARROW_STACK_GIVE_KEY),
     [STRETCH] = CALL(stretch, lingbarrow_stretch, LINGBARROW_STACK_STRETCH),
     [STRETCHES] = CALL(stretches, lingbarrow_stretches, LINGBARROW_STACK_STRETCHES),
+    [WHY_DARK] = CALL(why_dark, lingbarrow_why_dark, LINGBARROW_STACK_WHY_DARK),
     [WRITE_HLEND] = CALL(write_hlend, lingbarrow_write_hlend, LINGBARROW_STACK_WRITE_HLEND),
     [WRITE_ALLOCATION] = CALL(write_allocation, lingbarrow_write_allocation, LINGBARROW_STACK_WRITE_ALLOCATION),
     [WRITE_XGEM_FRAME] = CALL(write_xgem_frame, lingbarrow_write_xgem_frame, LINGBARROW_STACK_WRITE_XGEM_FRAME),

@@ -5,7 +5,7 @@
 #include "lingbarrow.h"
 #include <stdbool.h>
 
-enum { POWER_ON, IN_RANGE, FRAME, LOST, ADD_PORT, REMOVE_PORT, GIVE_KEY, STRETCH, STRETCHES, WRITE_HLEND, WRITE_ALLOCATION, WRITE_XGEM_FRAME, CALLS };
+enum { POWER_ON, IN_RANGE, FRAME, LOST, ADD_PORT, REMOVE_PORT, GIVE_KEY, STRETCH, STRETCHES, WHY_DARK, WRITE_HLEND, WRITE_ALLOCATION, WRITE_XGEM_FRAME, CALLS };
 
 enum { TARGET = 16400 };
 
@@ -20,6 +20,8 @@ struct lent {
     size_t place[LINGBARROW_PLACE];
     size_t places[LINGBARROW_PLACES(LINGBARROW_FRAME_MOST)];
     size_t stretch_counts[LINGBARROW_STRETCH_COUNTS];
+    uint8_t names[LINGBARROW_NAMES];
+    size_t name_counts[LINGBARROW_NAME_COUNTS];
     uint8_t target[TARGET];
 };
 
@@ -27,7 +29,7 @@ extern struct lent lent;
 
 /* How long they are said to be, and those that are only read. */
 struct lengths {
-    size_t state, memory, plan, replies, deliveries, counts, place, places, stretch_counts, target, serial, registration, key, sdu;
+    size_t state, memory, plan, replies, deliveries, counts, place, places, stretch_counts, names, name_counts, target, serial, registration, key, sdu;
 };
 
 extern const struct lengths whole;

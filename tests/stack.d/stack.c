@@ -146,6 +146,7 @@ static void keep(void)
     memset(lent.counts, 0, sizeof lent.counts);
     memset(lent.place, 0, sizeof lent.place);
     memset(lent.stretch_counts, 0, sizeof lent.stretch_counts);
+    memset(lent.name_counts, 0, sizeof lent.name_counts);
     memcpy(&kept, &lent, sizeof lent);
     station_kept = station;
 }
@@ -248,6 +249,18 @@ static void stretches(const char *what, unsigned wanted)
         claim(!memcmp(lent.places + i, "\x77\x77\x77\x77\x77\x77\x77\x77", sizeof lent.places[i]), "the list past the stretches");
 }
 
+/* What became of each structure of a map: as many as there are, and past them the list is as it was. */
+static void names(const char *what, unsigned wanted)
+{
+    size_t count = wanted == LINGBARROW_DONE || wanted == LINGBARROW_DELINEATION_LOST ? MOST_ENTRIES : 0;
+
+    memset(lent.names, 0x77, sizeof lent.names);
+    call(WHY_DARK, what, wanted == LINGBARROW_DELINEATION_LOST ? LINGBARROW_DONE : wanted);
+    claim(lent.name_counts[0] == count, "the count of names");
+    for (size_t i = 0; i < sizeof lent.names; i++)
+        claim(i < count ? lent.names[i] <= LINGBARROW_NAME_SILENT : lent.names[i] == 0x77, "each name, and the list past them");
+}
+
 static void houses(void)
 {
     char name[96];
@@ -259,6 +272,7 @@ static void houses(void)
         house(flips, NULL);
         snprintf(name, sizeof name, "full house, bits wrong in each header: %u", flips);
         stretches(name, wanted);
+        names(name, wanted);
         frame_arrives(name, wanted);
         answered("four grants, after a full house");
     }
@@ -270,12 +284,14 @@ static void houses(void)
         damage_hlend(flips);
         snprintf(name, sizeof name, "full house, bits wrong in HLend: %u", flips);
         stretches(name, wanted);
+        names(name, wanted);
         frame_arrives(name, wanted);
     }
     back();
     house(0, NULL);
     frame_length = 4 + 8 * MOST_ENTRIES + 48 * MOST_MESSAGES - 4;
     stretches("a header longer than the frame", LINGBARROW_HEADER_TOO_LONG);
+    names("a header longer than the frame", LINGBARROW_HEADER_TOO_LONG);
     frame_arrives("a header longer than the frame", LINGBARROW_HEADER_TOO_LONG);
 }
 
@@ -429,7 +445,7 @@ static void set_onu_id(unsigned id)
 /* What all calls refuse that take a state. */
 static void states_refused(void)
 {
-    static const unsigned taking[] = {IN_RANGE, FRAME, LOST, ADD_PORT, REMOVE_PORT, GIVE_KEY, STRETCH, STRETCHES};
+    static const unsigned taking[] = {IN_RANGE, FRAME, LOST, ADD_PORT, REMOVE_PORT, GIVE_KEY, STRETCH, STRETCHES, WHY_DARK};
 
     back();
     begin_frame();
@@ -474,6 +490,10 @@ static void frames_refused(void)
     refused(STRETCH, "a place that is too short", LINGBARROW_BUFFER_TOO_SHORT);
     lengths.stretch_counts--;
     refused(STRETCHES, "no room for the count", LINGBARROW_BUFFER_TOO_SHORT);
+    lengths.name_counts--;
+    refused(WHY_DARK, "no room for the count", LINGBARROW_BUFFER_TOO_SHORT);
+    lengths.names--;
+    refused(WHY_DARK, "a list that is too short", LINGBARROW_BUFFER_TOO_SHORT);
     frame_length = 8;
     lengths.places = LINGBARROW_PLACES(frame_length) - 1;
     refused(STRETCHES, "a list that is too short", LINGBARROW_BUFFER_TOO_SHORT);
@@ -482,6 +502,7 @@ static void frames_refused(void)
         refused(FRAME, "a length that no frame has", LINGBARROW_FRAME_LENGTH);
         refused(STRETCH, "a length that no frame has", LINGBARROW_FRAME_LENGTH);
         refused(STRETCHES, "a length that no frame has", LINGBARROW_FRAME_LENGTH);
+        refused(WHY_DARK, "a length that no frame has", LINGBARROW_FRAME_LENGTH);
         lengths.counts--;
         refused(FRAME, "a length that no frame has, and counts that are too short", LINGBARROW_FRAME_LENGTH);
         lengths.place--;

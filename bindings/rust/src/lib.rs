@@ -67,6 +67,8 @@ pub const STATE_VERSION: u8 = 8;
 pub const MEMORY_BYTES: usize = 34_816;
 /// Bytes of a saved station: its state, then its port memory.
 pub const SAVED_BYTES: usize = STATE_BYTES + MEMORY_BYTES;
+/// Structures of a map: HLend can count so many.
+pub const NAMES: usize = 2047;
 /// Numbers of a plan: 64 records of four.
 pub const PLAN_NUMBERS: usize = 256;
 /// Bytes of replies: four messages of 48.
@@ -534,6 +536,29 @@ impl<'f> Arriving<'_, 'f> {
         Ok(Stretches { frame: self.frame, places: places[..2 * count[0]].chunks_exact(2) })
     }
 
+    /// What became of each structure of the frame's map, in map order. Those that are [planned](Name::Planned) are the plan's
+    /// [records](Received::records), in the same order. `lent` holds the names while they are looked at.
+    ///
+    /// ```
+    /// # use lingbarrow::{write_hlend, Name, Station, NAMES};
+    /// # let mut station = Station::power_on([0; 8], [0; 36]);
+    /// # let mut frame = [0; 1024];
+    /// # write_hlend(1, 0, &mut frame)?;
+    /// let mut lent = [0; NAMES];
+    /// for (structure, name) in station.arriving(&frame).why_dark(&mut lent)?.enumerate() {
+    ///     println!("{structure} {name}");
+    /// #   assert_eq!(name, Name::Silent);
+    /// }
+    /// # Ok::<(), lingbarrow::Error>(())
+    /// ```
+    pub fn why_dark<'n>(&self, lent: &'n mut [u8; NAMES]) -> Result<impl ExactSizeIterator<Item = Name> + 'n, Error> {
+        let mut count = [0];
+        match Error::of(raw::why_dark(&self.station.state, self.frame, lent, &mut count)) {
+            None => Ok(lent[..count[0]].iter().map(|&number| Name::of(number))),
+            Some(e) => Err(e),
+        }
+    }
+
     /// The frame acts: its plan, replies and deliveries go to the buffers, and the station to its next state. `random_delay` is what the
     /// caller drew for a burst in O2-3, in bit times of 2.48832 Gbit/s; the engine writes it into Serial_Number_ONU.
     ///
@@ -555,6 +580,75 @@ impl<'f> Arriving<'_, 'f> {
             replies: &buffers.replies[..message::BYTES * replies],
             deliveries: &buffers.deliveries[..bytes],
             delineation_lost,
+        })
+    }
+}
+
+/// What became of a structure of the map: the first of these that is so, but for the last, which comes before all.
+#[derive(Clone, Copy, PartialEq, Eq, Hash, Debug)]
+#[repr(u8)]
+pub enum Name {
+    Planned = 0,
+    /// No true word is near.
+    Unreadable = 1,
+    /// 9,720 to 65,534.
+    StartTimeUnfit = 2,
+    /// DBRu with GrantSize 0.
+    DbruWithoutRoom = 3,
+    /// Not ours in this state: another's Alloc-ID, or a grant that this state does not take.
+    Foreign = 4,
+    /// Ours and continuing, behind an entry of no burst of ours.
+    ContinuingNothing = 5,
+    /// Ours and continuing, straight behind the sixteen of a burst.
+    Seventeenth = 6,
+    /// Of a burst of more than 9,720 words.
+    TooLong = 7,
+    /// Of a burst that starts before the last planned one has ended.
+    Overlapping = 8,
+    /// Of a burst behind four planned ones.
+    AfterTheFourth = 9,
+    /// A state that sends nothing: O1, O6, O7.
+    Silent = 10,
+}
+
+impl Name {
+    /// The number in the list of names.
+    pub const fn number(self) -> u8 {
+        self as u8
+    }
+
+    fn of(number: u8) -> Name {
+        match number {
+            0 => Name::Planned,
+            1 => Name::Unreadable,
+            2 => Name::StartTimeUnfit,
+            3 => Name::DbruWithoutRoom,
+            4 => Name::Foreign,
+            5 => Name::ContinuingNothing,
+            6 => Name::Seventeenth,
+            7 => Name::TooLong,
+            8 => Name::Overlapping,
+            9 => Name::AfterTheFourth,
+            // The proved library names 0 to 10 and nothing else.
+            _ => Name::Silent,
+        }
+    }
+}
+
+impl std::fmt::Display for Name {
+    fn fmt(&self, f: &mut std::fmt::Formatter<'_>) -> std::fmt::Result {
+        f.pad(match self {
+            Name::Planned => "planned",
+            Name::Unreadable => "unreadable",
+            Name::StartTimeUnfit => "StartTime unfit",
+            Name::DbruWithoutRoom => "DBRu without room",
+            Name::Foreign => "foreign",
+            Name::ContinuingNothing => "continuing nothing",
+            Name::Seventeenth => "seventeenth",
+            Name::TooLong => "too long",
+            Name::Overlapping => "overlapping",
+            Name::AfterTheFourth => "after the fourth",
+            Name::Silent => "a state that sends nothing",
         })
     }
 }

@@ -38,6 +38,16 @@ extern "C" {
         counts: *mut usize,
         counts_length: usize,
     ) -> u8;
+    fn lingbarrow_why_dark(
+        state: *const u8,
+        state_length: usize,
+        frame: *const u8,
+        frame_length: usize,
+        names: *mut u8,
+        names_length: usize,
+        counts: *mut usize,
+        counts_length: usize,
+    ) -> u8;
     fn lingbarrow_write_hlend(bwmap: u32, ploam: u32, target: *mut u8, target_length: usize) -> u8;
     fn lingbarrow_write_allocation(alloc: u32, dbru: u32, ploamu: u32, start: u32, grant: u32, fwi: u32, profile: u32, target: *mut u8, target_length: usize) -> u8;
     fn lingbarrow_write_xgem_frame(key: u32, port: u32, options: u32, last: u32, sdu: *const u8, sdu_length: usize, target: *mut u8, target_length: usize) -> u8;
@@ -107,6 +117,10 @@ pub fn stretches(state: &[u8], frame: &[u8], places: &mut [usize], counts: &mut 
     unsafe {
         lingbarrow_stretches(state.as_ptr(), state.len(), frame.as_ptr(), frame.len(), places.as_mut_ptr(), places.len(), counts.as_mut_ptr(), counts.len())
     }
+}
+
+pub fn why_dark(state: &[u8], frame: &[u8], names: &mut [u8], counts: &mut [usize]) -> u8 {
+    unsafe { lingbarrow_why_dark(state.as_ptr(), state.len(), frame.as_ptr(), frame.len(), names.as_mut_ptr(), names.len(), counts.as_mut_ptr(), counts.len()) }
 }
 
 pub fn write_hlend(bwmap: u32, ploam: u32, target: &mut [u8]) -> u8 {

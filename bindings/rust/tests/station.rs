@@ -1,7 +1,7 @@
 //! The wrappers over whole runs: the bench run's sample, line for line, and what the types are for.
 use lingbarrow::{
-    at, message, places, write_hlend, write_xgem_frame, Activation, AllocId, Arriving, Buffers, Completion, Error, OnuId, Owed, Port, PortId, Station, MEMORY_BYTES,
-    SAVED_BYTES, STATE_VERSION,
+    at, message, places, write_allocation, write_hlend, write_xgem_frame, Activation, AllocId, Allocation, Arriving, Buffers, Completion, Error, Name, OnuId, Owed,
+    Port, PortId, Station, MEMORY_BYTES, NAMES, SAVED_BYTES, STATE_VERSION,
 };
 
 const SERIAL: [u8; 8] = *b"LBRW\x00\x00\x00\x01";
@@ -70,6 +70,41 @@ fn stretches_are_those_of_the_state_in_which_the_frame_arrives() {
     assert_eq!(arriving.stretches(&mut lent[1..]).err(), Some(Error::BufferTooShort));
     assert_eq!(receive(arriving, &mut buffers), [(5, b"a first and last".to_vec()), (5, b"a whole.".to_vec())]);
     assert_eq!(station.arriving(&frame[..6]).stretch(0), Err(Error::FrameLengthUnfit));
+}
+
+#[test]
+fn every_structure_of_a_map_has_its_name() {
+    let mut buffers = Buffers::new(1024);
+    let mut station = operating(&mut buffers);
+    let grant = |alloc, start, grant| Allocation { alloc: AllocId(alloc), dbru: false, ploamu: false, start, grant, fwi: false, profile: 0 };
+    let map = [
+        (grant(5, 100, 10), Name::Planned),
+        (grant(5, 65535, 10), Name::Planned),
+        (grant(6, 200, 10), Name::Foreign),
+        (grant(5, 65535, 10), Name::ContinuingNothing),
+        (grant(5, 110, 10), Name::Overlapping),
+        (grant(5, 9720, 10), Name::StartTimeUnfit),
+        (grant(5, 200, 9719), Name::TooLong),
+        (Allocation { dbru: true, ..grant(5, 200, 0) }, Name::DbruWithoutRoom),
+        (grant(5, 200, 0), Name::Planned),
+    ];
+    let mut frame = vec![0; 4 + 8 * map.len()];
+    write_hlend(map.len() as u32, 0, &mut frame).unwrap();
+    for ((structure, _), into) in map.iter().zip(frame[4..].chunks_exact_mut(8)) {
+        write_allocation(*structure, into).unwrap();
+    }
+    let mut lent = [0xee; NAMES];
+    let arriving = station.arriving(&frame);
+    let names: Vec<_> = arriving.why_dark(&mut lent).unwrap().collect();
+    assert_eq!(names, map.map(|(_, name)| name));
+    assert!(lent[map.len()..].iter().all(|name| *name == 0xee));
+    assert_eq!(names.iter().map(|name| name.to_string()).collect::<Vec<_>>()[2..4], ["foreign", "continuing nothing"]);
+    let received = arriving.receive(0, &mut buffers).unwrap();
+    let planned = map.iter().filter(|(_, name)| *name == Name::Planned);
+    assert!(received.records().map(|r| (r.alloc, u32::from(r.grant))).eq(planned.map(|(a, _)| (a.alloc, a.grant))));
+    assert_eq!(station.arriving(&frame[..6]).why_dark(&mut lent).err(), Some(Error::FrameLengthUnfit));
+    station.lost();
+    assert!(station.arriving(&frame).why_dark(&mut lent).unwrap().all(|name| name == Name::Silent));
 }
 
 #[test]

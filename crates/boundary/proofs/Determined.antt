@@ -3,10 +3,11 @@
 use mathlib.Core.Path.{_≡_, _∙_, sym}
 use mathlib.Core.List.{List}
 use Prim.Native.Nat.{ℕ}
+use Rattle.station.specs.declared.Station.{Station}
 use Rattle.frame.specs.Given.{Arrival, Lent}
 use Rattle.boundary.specs.Calls.{StateLeft, inRangeOn, lostOn, addOn, removeOn, keyOn, powerOnIn}
 use Rattle.boundary.specs.Frames.{BuffersLeft, PlaceLeft, frameOn, placeOn}
-use Rattle.boundary.specs.Stretches.{ListLeft, listOn}
+use Rattle.boundary.specs.Lists.{Listing, ListLeft, listOn}
 use Rattle.boundary.specs.Writers.{Target, hlendIn, allocationIn, xgemFrameIn}
 
 pub power-on-once : (b serial registration : List ℕ) (x y : StateLeft) → x ≡ powerOnIn b serial registration → y ≡ powerOnIn b serial registration → x ≡ y
@@ -35,8 +36,11 @@ frame-once b a counts lent x y p q = p ∙ sym q
 pub place-once : (b f : List ℕ) (k : ℕ) (place : List ℕ) (x y : PlaceLeft) → x ≡ placeOn b f k place → y ≡ placeOn b f k place → x ≡ y
 place-once b f k place x y p q = p ∙ sym q
 
-pub list-once : (b f places counts : List ℕ) (x y : ListLeft) → x ≡ listOn b f places counts → y ≡ listOn b f places counts → x ≡ y
-list-once b f places counts x y p q = p ∙ sym q
+-- of `lingbarrow_stretches` and of `lingbarrow_why_dark`
+pub list-once
+    : (b f : List ℕ) (call : Station → Listing) (list counts : List ℕ) (x y : ListLeft) → x ≡ listOn b f call list counts → y ≡ listOn b f call list counts
+    → x ≡ y
+list-once b f call list counts x y p q = p ∙ sym q
 
 pub hlend-once : (bwmap ploam : ℕ) (t : List ℕ) (x y : Target) → x ≡ hlendIn bwmap ploam t → y ≡ hlendIn bwmap ploam t → x ≡ y
 hlend-once bwmap ploam t x y p q = p ∙ sym q

@@ -1,4 +1,4 @@
 pub mod Calls
 pub mod Frames
-pub mod Stretches
+pub mod Lists
 pub mod Writers

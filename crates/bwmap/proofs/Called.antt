@@ -19,31 +19,24 @@ use Rattle.entries.proofs.Facts.{ours-is, apart-unplanned}
 use Rattle.series.specs.Limits.{entriesABurst}
 use Rattle.series.specs.declared.Around.{Around}
 use Rattle.series.specs.Series.{Series, entryAt, entryCount, standingsFrom, run, seriesAt, seriesOf, outset, beyond, verdictOf, planned, plannedOf}
+use Rattle.series.proofs.Runs.{run-nil, run-head, run-apart}
+use Rattle.bwmap.specs.Courses.{left}
 use Rattle.bwmap.specs.Verdicts.{roles, verdictsOf, verdicts, entriesFrom, entries, called, readable, entriesOf}
-
--- what is left of the series that is open with k so far
-abbrev left : ℕ → List Standing → List Allocation
-left zero l = []
-left (suc k) l = run (15 - k) l
 
 abbrev expected : Around → ℕ → Verdict → List Standing → List Allocation
 expected around k v l = cond (isPlanned v) (left k l) [] ++ entriesOf (planned around (seriesOf l))
 
-left-apart : (k : ℕ) (v : Verdict) (l : List Standing) → left k (Apart v ∷ l) ≡ []
-left-apart zero v l = refl
-left-apart (suc k) v l = go (15 - k)
-  where
-    go : (j : ℕ) → run j (Apart v ∷ l) ≡ []
-    go zero = refl
-    go (suc j) = refl
+pub left-nil : (k : ℕ) → left k [] ≡ []
+left-nil zero = refl
+left-nil (suc k) = run-nil (15 - k)
 
-left-head : (k : ℕ) (a : Allocation) (l : List Standing) → left k (Head a ∷ l) ≡ []
+pub left-apart : (k : ℕ) (v : Verdict) (l : List Standing) → left k (Apart v ∷ l) ≡ []
+left-apart zero v l = refl
+left-apart (suc k) v l = run-apart (15 - k) v l
+
+pub left-head : (k : ℕ) (a : Allocation) (l : List Standing) → left k (Head a ∷ l) ≡ []
 left-head zero a l = refl
-left-head (suc k) a l = go (15 - k)
-  where
-    go : (j : ℕ) → run j (Head a ∷ l) ≡ []
-    go zero = refl
-    go (suc j) = refl
+left-head (suc k) a l = run-head (15 - k) a l
 
 none : (b : Bool) (l : List Allocation) → l ≡ [] → _≡_ {A = List Allocation} (cond b l []) []
 none true l h = h
@@ -101,15 +94,7 @@ module _ (own : Own) (m : List ℕ) where
           rw (p, d) (ih around 0 v ∙ ap (λ (l : List Allocation). readable (l ++ entriesOf (planned around (seriesOf (standingsFrom own m (suc i) j))))) (none (isPlanned v) [] refl ∙ sym (none (isPlanned v) [] refl)))
 
   called-from : (j i : ℕ) (around : Around) (k : ℕ) (v : Verdict) → called (verdictsOf around v (roles k (standingsFrom own m i j))) (entriesFrom m i j) ≡ readable (expected around k v (standingsFrom own m i j))
-  called-from zero i around k v = sym (ap (λ (l : List Allocation). readable (l ++ [])) (none (isPlanned v) (left k []) (empty k)))
-    where
-      empty : (k : ℕ) → left k [] ≡ []
-      empty zero = refl
-      empty (suc k) = nil (15 - k)
-        where
-          nil : (j : ℕ) → run j [] ≡ []
-          nil zero = refl
-          nil (suc j) = refl
+  called-from zero i around k v = sym (ap (λ (l : List Allocation). readable (l ++ [])) (none (isPlanned v) (left k []) (left-nil k)))
   called-from (suc j) i around k v = go i j (called-from j (suc i)) around k v (standing own (entryAt m i)) refl
 
   pub called-planned : (carried : ℕ) → called (verdicts own m carried) (entries m) ≡ readable (entriesOf (plannedOf own m carried))

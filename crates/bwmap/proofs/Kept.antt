@@ -64,7 +64,7 @@ module _ (own : Own) (m : List ℕ) where
   mine : (i : ℕ) (a : Allocation) (more : Bool) → standing own (entryAt m i) ≡ standsAs more a → Mine own (entryAt m i) a more
   mine i a more e = ours-is own (entryAt m i) a more e
 
-  follow : (k i j : ℕ) → i + j ≤ entryCount m → Follow own m i (run k (standingsFrom own m i j))
+  pub follow : (k i j : ℕ) → i + j ≤ entryCount m → Follow own m i (run k (standingsFrom own m i j))
   follow zero i j h = tt
   follow (suc k) i zero h = tt
   follow (suc k) i (suc j) h = go (standing own (entryAt m i)) refl (follow k (suc i) j (omega arith))

@@ -6,4 +6,5 @@ pub mod Determined
 pub mod Kept
 pub mod Once
 pub mod Called
+pub mod Courses
 pub mod Sums

@@ -31,7 +31,7 @@ use Rattle.bwmap.proofs.Laws.{rest-cons, rest-nil}
 
 -- ---- lists
 
-sets-append : (p : List ℕ) (i : ℕ) (xs ys : List ℕ) → sets p i (xs ++ ys) ≡ sets (sets p i xs) (i + length xs) ys
+pub sets-append : (p : List ℕ) (i : ℕ) (xs ys : List ℕ) → sets p i (xs ++ ys) ≡ sets (sets p i xs) (i + length xs) ys
 sets-append p i [] ys = rw (add-zero i)
 sets-append p i (x ∷ xs) ys =
     let e : i + suc (length xs) ≡ suc i + length xs = omega arith in
@@ -40,7 +40,7 @@ sets-append p i (x ∷ xs) ys =
 -- ---- a run, and what stands behind it
 
 module _ (own : Own) (m : List ℕ) where
-  length-standings : (i j : ℕ) → length (standingsFrom own m i j) ≡ j
+  pub length-standings : (i j : ℕ) → length (standingsFrom own m i j) ≡ j
   length-standings i zero = refl
   length-standings i (suc j) = ap suc (length-standings (suc i) j)
 

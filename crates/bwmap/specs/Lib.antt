@@ -4,3 +4,5 @@ pub mod Upstream
 pub mod Turns
 pub mod Verdicts
 pub mod Sums
+pub mod Names
+pub mod Courses

@@ -1,5 +1,6 @@
 // The walk over the bandwidth map (clause 8.1.2): the series of ours, which of them are planned, and the plan that the
-// laser obeys.
+// laser obeys; and the name of every structure, what became of it.
+mod names;
 mod records;
 mod search;
 
@@ -13,6 +14,7 @@ ghost use Rattle.plan.specs.Limits.{planNumbers};
 ghost use Rattle.series.specs.Series.{entryCount, carriedOver};
 ghost use Rattle.bwmap.specs.Turns.{finished, toCome, starting, Small};
 ghost use Rattle.bwmap.specs.Plan.{MapLeaves};
+ghost use Rattle.bwmap.specs.Names.{NamesAre};
 use search::Next;
 use series::Around;
 use station::limits::UPSTREAM_WORDS;
@@ -33,6 +35,12 @@ pub struct Plan {
 pub enum Planning {
     Planned(Plan),
     PlanTooShort,
+}
+
+// How many structures have a name.
+pub enum Naming {
+    Named(usize),
+    ListTooShort,
 }
 
 // How far a walk has come: the next entry, and what is planned of those before it.
@@ -137,4 +145,21 @@ pub fn plan_map(map: &[u8], own: Own, carried: u16, plan: &mut [u16]) -> Plannin
         end: last.end,
         carried: carried_over(last.end),
     })
+}
+
+// The name of every structure of a map, at the start of the lent list, the rest of which keeps its content.
+pub fn name_map(map: &[u8], own: Own, carried: u16, names: &mut [u8]) -> Naming
+    ensures { λ r. ⌜ NamesAre own (now (map .entry)) carried (now (names .entry)) r (now (names .exit)) ⌝ }
+{
+    let n = map.len() / STRUCTURE_OCTETS;
+    if names.len() < n {
+        return Naming::ListTooShort;
+    }
+    let activation = own.activation;
+    if activation.is_silent() {
+        names::fill(names, 0, n, entries::SILENT);
+        return Naming::Named(n);
+    }
+    names::name_entries(map, own, carried, names);
+    Naming::Named(n)
 }

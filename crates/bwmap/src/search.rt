@@ -34,7 +34,7 @@ fn read_at(map: &[u8], own: Own, i: usize) -> Standing
     own.standing_ahead(&map[at..])
 }
 
-fn joined(s: Open, a: Allocation) -> Open
+pub(crate) fn joined(s: Open, a: Allocation) -> Open
     requires { ⌜ Modest s × (goesOn s ≡ true) ⌝ }
     ensures { λ r. ⌜ (r ≡ joined s a) × Modest r ⌝ }
 {

@@ -32,7 +32,7 @@ use Rattle.frame.specs.Given.{Arrival, Lent}
 use Rattle.frame.specs.Frame.{FrameLeft, noCounts, plannedIn, payloadIn, done, handled, frameLeft}
 use Rattle.frame.specs.declared.Counts.{Counts}
 use Rattle.engine.specs.Answers.{Row}
-use Rattle.demands.specs.Runs.{Call, frame, lost, addPort, removePort, giveKey, Progress, after, run, start, runOf}
+use Rattle.demands.specs.Runs.{Call, frame, lost, addPort, removePort, giveKey, whyDark, Progress, after, run, start, runOf}
 use Rattle.demands.specs.Demand1.{Demand1}
 use Rattle.demands.specs.Demand2.{Demand2}
 use Rattle.demands.specs.Demand3.{sendings, burstsFrom, Demand3}
@@ -71,6 +71,7 @@ refused-sends first st (lost ∷ l) = refused-sends first _ l
 refused-sends first st (addPort port ∷ l) = refused-sends first _ l
 refused-sends first st (removePort port ∷ l) = refused-sends first _ l
 refused-sends first st (giveKey octets ∷ l) = refused-sends first _ l
+refused-sends first st (whyDark f names ∷ l) = refused-sends first st l
 
 refused-kept : (first : Station) (st : Progress) (l : List Call) → Kept first st → Kept first (run refusesAll first st l)
 refused-kept first st [] k = k
@@ -79,6 +80,7 @@ refused-kept first st (lost ∷ l) k = refused-kept first _ l (call-kept first s
 refused-kept first st (addPort port ∷ l) k = refused-kept first _ l (call-kept first st (addPort port) k)
 refused-kept first st (removePort port ∷ l) k = refused-kept first _ l (call-kept first st (removePort port) k)
 refused-kept first st (giveKey octets ∷ l) k = refused-kept first _ l (call-kept first st (giveKey octets) k)
+refused-kept first st (whyDark f names ∷ l) k = refused-kept first st l k
 
 module _ (serial registration memory : List ℕ) (calls : List Call) where
   abbrev st : Progress

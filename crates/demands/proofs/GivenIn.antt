@@ -21,7 +21,7 @@ use Rattle.downstream.specs.Partitions.{messagesOf}
 use Rattle.frame.specs.Frame.{plannedIn}
 use Rattle.plan.specs.Plan.{messages}
 use Rattle.demands.specs.Engine.{Engine}
-use Rattle.demands.specs.Runs.{Call, frame, lost, addPort, removePort, giveKey, Buffers, Progress, lend, isDone, isUnread, passes, arrived, befell, after, run, start}
+use Rattle.demands.specs.Runs.{Call, frame, lost, addPort, removePort, giveKey, whyDark, Buffers, Progress, lend, isDone, isUnread, passes, arrived, befell, after, run, start}
 use Rattle.demands.specs.Demand3.{MessageOf, GivenIn}
 
 -- ---- the messages that a history has considered, the latest first
@@ -151,6 +151,7 @@ module _ (E : Engine) (first : Station) (m : List ℕ) where
   by-call st (addPort port) l among = inr among
   by-call st (removePort port) l among = inr among
   by-call st (giveKey octets) l among = inr among
+  by-call st (whyDark f names) l among = inr among
 
   pub by-run : (calls : List Call) (st : Progress) → Among m (heard (run E first st calls .history)) → Brought calls m ⊎ Among m (heard (st .history))
   by-run [] st among = inr among

@@ -12,9 +12,11 @@ pub mod Counting
 pub mod Stretched
 pub mod Forgotten
 pub mod Keeps
+pub mod Names
 pub mod RefutingRuns
 pub mod TwoGrants
 pub mod Bite
+pub mod WrongNames
 pub mod Activated
 pub mod FirstMessage
 pub mod FirstXgem

@@ -40,10 +40,11 @@ use Rattle.downstream.specs.Partitions.{headerEnd, payloadOf}
 use Rattle.engine.specs.Lods.{lostLeft}
 use Rattle.engine.specs.declared.stretching.StretchPlace.{StretchPlace}
 use Rattle.engine.specs.Stretch.{empty, told, placeIn, placeBy, stretchPlace, placesFit, placesBy, stretchPlaces}
+use Rattle.engine.specs.Naming.{NamesLeft, namedIn, mostStructures, namesBy, whyDark}
 use Rattle.engine.proofs.Each.{each-by}
 use Rattle.engine.proofs.Table.{table, not-short}
 use Rattle.demands.specs.Engine.{lingbarrow}
-use Rattle.demands.specs.Demand1.{PoweredOn, LostRow, AddRow, RemoveRow, KeyRow, Placed, StretchRow, StretchesRow, WriteRow, Writes, Demand1}
+use Rattle.demands.specs.Demand1.{PoweredOn, LostRow, AddRow, RemoveRow, KeyRow, Placed, StretchRow, StretchesRow, Passed, NamesRow, WriteRow, Writes, Demand1}
 
 powered-on : (serial registration : List ℕ) → PoweredOn serial registration (powerOn serial registration)
 powered-on serial registration =
@@ -169,6 +170,37 @@ stretches-row s f places = go (inRange s) refl (lengthFits (length f)) refl (pla
     go true p true q false r = StretchesRow.list-too-short p q r refl
     go true p true q true r = StretchesRow.each (λ t u. r) (each-by s f places (byHlend (readHlend f) (length f)) (rw (p, q)))
 
+-- ---- the names
+
+module _ (s : Station) (f names : List ℕ) where
+  abbrev NamesRowed : NamesLeft → Type 0
+  NamesRowed left = NamesRow s f names left (answerNumber (left .found .answer))
+
+  named-row : Passed s f names → (h : Hlend) → readHlend f ≡ fields h → headerEnd h ≤ length f → NamesRowed (namedIn s h f names)
+  unfolding namedIn
+  named-row p h e fits = NamesRow.done p h e fits refl
+
+  names-by-hlend : Passed s f names → (r : Found Hlend) → readHlend f ≡ r → NamesRowed (namesBy (byHlend r (length f)) s f names)
+  names-by-hlend p unreadable e = NamesRow.hlend-unreadable p e refl
+  names-by-hlend p short e = absurd (not-short f (p .frame) e)
+  names-by-hlend p (fields h) e = go (leb (headerEnd h) (length f)) refl
+    where
+      go : (c : Bool) → leb (headerEnd h) (length f) ≡ c → NamesRowed (namesBy (cond c (Opened h) (Unread HeaderTooLong)) s f names)
+      go true q = named-row p h e (leb-true (headerEnd h) (length f) q)
+      go false q = NamesRow.header-too-long p h e (leb-false (headerEnd h) (length f) q) refl
+
+  names-row : NamesRowed (whyDark s f names)
+  unfolding whyDark opening
+  names-row = go (inRange s) refl (lengthFits (length f)) refl (leb mostStructures (length names)) refl
+    where
+      go
+          : (a : Bool) → inRange s ≡ a → (b : Bool) → lengthFits (length f) ≡ b → (c : Bool) → leb mostStructures (length names) ≡ c
+          → NamesRowed (namesBy (cond (not a) (Refused StateOutOfRange) (cond (not b) (Refused FrameLengthUnfit) (cond (not c) (Refused BufferTooShort) (byHlend (readHlend f) (length f))))) s f names)
+      go false p b q c r = NamesRow.state-out-of-range p refl
+      go true p false q c r = NamesRow.frame-length-unfit p q refl
+      go true p true q false r = NamesRow.list-too-short p q (leb-false mostStructures (length names) r) refl
+      go true p true q true r = names-by-hlend (record { state = p; frame = q; list = leb-true mostStructures (length names) r }) (readHlend f) refl
+
 -- ---- the writers
 
 write-row : (fit : Bool) (octets t : List ℕ) → Writes fit octets t (wrote fit octets t)
@@ -191,6 +223,7 @@ meets-demand-1 = record {
   key = key-row;
   stretch = stretch-row;
   stretches = stretches-row;
+  names = names-row;
   hlend = λ h t. write-row (hlendFits h) (octets 4 (hlendWord h)) t;
   allocation = λ a t. write-row (allocationFits a) (octets 8 (allocationWord a)) t;
   xgem = λ x t. write-row (xgemFits x) (octets 8 (xgemWord x)) t;

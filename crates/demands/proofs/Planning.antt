@@ -19,7 +19,7 @@ use Rattle.ledger.specs.Events.{Event, stationOf}
 use Rattle.ledger.specs.Plan.{ownAt, NumberOf}
 use Rattle.frame.specs.Given.{Arrival, Lent}
 use Rattle.downstream.specs.Partitions.{mapOf}
-use Rattle.frame.specs.Frame.{FrameLeft, plannedIn, done, handled}
+use Rattle.frame.specs.Frame.{FrameLeft, ownOf, plannedIn, done, handled}
 use Rattle.engine.specs.Answers.{Handled, Row}
 use Rattle.demands.specs.Runs.{isDone}
 use Rattle.demands.specs.Demand3.{sendings, Numbered, Planned, AllPlanned, Obeys, Plans}
@@ -47,19 +47,19 @@ module _ (first : Station) (h : List Event) (m : List ℕ) (n : NumberOf first h
 
 -- ---- the frame
 
+-- the records that are counted are what was written
+pub handled-records
+    : (s : Station) (arrival : Arrival) (lent : Lent) (hl : Hlend)
+    → let left = handled s hl arrival lent in
+    take (numbersARecord * left .counts .records) (left .lent .plan) ≡ numbers (plannedOf (ownOf s) (mapOf hl (arrival .octets)) (s .carried))
+unfolding handled done plannedIn
+handled-records s arrival lent hl = records-written (plannedOf (ownOf s) (mapOf hl (arrival .octets)) (s .carried)) (lent .plan)
+
 module _ (first : Station) (h : List Event) (arrival : Arrival) (lent : Lent) (n : NumberOf first h) where
   -- what the laser sends is what was planned
   handled-sent : (hl : Hlend) → sendings (handled (stationOf first h) hl arrival lent) ≡ burstsOf (plannedOf (ownAt first h) (mapOf hl (arrival .octets)) (stationOf first h .carried))
   unfolding handled done plannedIn
   handled-sent hl = laser-obeys (plannedOf (ownAt first h) (mapOf hl (arrival .octets)) (stationOf first h .carried)) (lent .plan)
-
-  -- and its records are what was written
-  handled-records
-      : (hl : Hlend)
-      → let left = handled (stationOf first h) hl arrival lent in
-      take (numbersARecord * left .counts .records) (left .lent .plan) ≡ numbers (plannedOf (ownAt first h) (mapOf hl (arrival .octets)) (stationOf first h .carried))
-  unfolding handled done plannedIn
-  handled-records hl = records-written (plannedOf (ownAt first h) (mapOf hl (arrival .octets)) (stationOf first h .carried)) (lent .plan)
 
   handled-obeys : (hl : Hlend) → Obeys first h (mapOf hl (arrival .octets)) (stationOf first h .carried) (handled (stationOf first h) hl arrival lent)
   handled-obeys hl =
@@ -71,7 +71,7 @@ module _ (first : Station) (h : List Event) (arrival : Arrival) (lent : Lent) (n
         planned = l;
         account = every-series-accounted own m (stationOf first h .carried);
         are = handled-sent hl;
-        records = handled-records hl;
+        records = handled-records (stationOf first h) arrival lent hl;
       }
 
   plans-by : (lost : Bool) (left : FrameLeft) → Handled (stationOf first h) arrival lent lost left → Plans first h arrival (stationOf first h .carried) left

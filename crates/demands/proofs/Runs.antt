@@ -30,7 +30,7 @@ use Rattle.engine.specs.Answers.{Handled, Row}
 use Rattle.engine.proofs.Ranged.{frame-sound, lost-call-sound}
 use Rattle.engine.proofs.Table.{table}
 use Rattle.demands.specs.Engine.{lingbarrow}
-use Rattle.demands.specs.Runs.{Call, frame, lost, addPort, removePort, giveKey, Progress, lend, arrived, befell, after, run, start, runOf}
+use Rattle.demands.specs.Runs.{Call, frame, lost, addPort, removePort, giveKey, whyDark, Progress, lend, arrived, befell, after, run, start, runOf}
 
 pub record Kept (first : Station) (st : Progress) : Type 0 where
   pub same : stationOf first (st .history) ≡ st .station
@@ -94,6 +94,7 @@ call-kept first st (removePort port) k =
     record { same = ap (λ (s : Station). lingbarrow .removePort s port .station) (k .same); sound = remove-sound (st .station) port (k .sound) }
 call-kept first st (giveKey octets) k =
     record { same = ap (λ (s : Station). lingbarrow .giveKey s octets .station) (k .same); sound = key-sound (st .station) octets (k .sound) }
+call-kept first st (whyDark f names) k = k
 
 pub run-kept : (first : Station) (st : Progress) (l : List Call) → Kept first st → Kept first (run lingbarrow first st l)
 run-kept first st [] k = k

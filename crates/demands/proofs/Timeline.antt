@@ -30,7 +30,7 @@ use Rattle.engine.specs.Answers.{Handled, Row}
 use Rattle.engine.proofs.Ranged.{carried-low}
 use Rattle.engine.proofs.Table.{table}
 use Rattle.demands.specs.Engine.{lingbarrow}
-use Rattle.demands.specs.Runs.{Call, frame, lost, addPort, removePort, giveKey, Buffers, Progress, lend, passes, another, after, run}
+use Rattle.demands.specs.Runs.{Call, frame, lost, addPort, removePort, giveKey, whyDark, Buffers, Progress, lend, passes, another, after, run}
 use Rattle.demands.specs.Demand3 as demand
 use Rattle.demands.specs.Demand3.{sendings, granted, placed, burstsBy, burstsFrom, lastFinish}
 use Rattle.demands.proofs.Carried.{messages-carried, end-carried, add-carried, remove-carried, key-carried}
@@ -137,6 +137,7 @@ step first st lost k =
 step first st (addPort port) k = still refl refl (add-carried (st .station) port)
 step first st (removePort port) k = still refl refl (remove-carried (st .station) port)
 step first st (giveKey octets) k = still refl refl (key-carried (st .station) octets)
+step first st (whyDark f names) k = still refl refl refl
 
 -- ---- the frame times of a run
 

@@ -19,9 +19,13 @@ use Rattle.xgem.specs.Reads.{Found, fields, taken}
 use Rattle.xgtc.specs.Reads.{readHlend}
 use Rattle.station.specs.declared.Station.{Station}
 use Rattle.answers.specs.Answers.{answerNumber}
+use Rattle.entries.specs.declared.Verdict.the-variants.{Planned, ContinuingNothing}
+use Rattle.entries.specs.Names.{nameNumber}
 use Rattle.entries.specs.Standings.{standing, sorted, startUnfit, noRoom, continues, discovery}
 use Rattle.series.specs.Series.{Series, entryAt, standings, seriesOf, outset, planned, judged, wordsOf}
 use Rattle.bwmap.specs.Promises.{Account}
+use Rattle.bwmap.specs.Verdicts.{roles, verdictsOf}
+use Rattle.bwmap.specs.Names.{nameNumbers, namesOf}
 use Rattle.plan.specs.Laser.{Sending, burstsOf}
 use Rattle.downstream.specs.Lengths.{lengthFits}
 use Rattle.frame.specs.Given.{Arrival, Lent, enough}
@@ -88,6 +92,13 @@ answer-two = only searching (arrives two) lent 0 (handled searching twoEntries (
 pub two-planned : plannedIn searching twoEntries (arrives two) ≡ seriesFrom 0 ∷ seriesFrom 100 ∷ []
 unfolding plannedIn seriesFrom grantAt judged wordsOf
 two-planned = ap (planned (outset 0)) two-series
+
+-- it calls both planned
+pub two-named : namesOf (ownOf searching) (mapOf twoEntries two) 0 ≡ nameNumber Planned ∷ nameNumber Planned ∷ []
+unfolding grantAt two twoEntries standing sorted startUnfit noRoom continues discovery judged wordsOf
+two-named =
+    ap₂ (λ (a b : Found Allocation). nameNumbers (verdictsOf (outset 0) ContinuingNothing (roles 0 (standing (ownOf searching) a ∷ standing (ownOf searching) b ∷ []))))
+    first-entry second-entry
 
 -- ---- any engine
 

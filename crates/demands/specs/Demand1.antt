@@ -41,6 +41,7 @@ use Rattle.engine.specs.Answers.{Row}
 use Rattle.engine.specs.declared.stretching.StretchPlace.{StretchPlace}
 use Rattle.engine.specs.Stretch.{empty, placeIn, PlacesLeft, noPlaces, placesFit}
 use Rattle.engine.specs.Each.{EachStretch}
+use Rattle.engine.specs.Naming.{NamesLeft, unnamed, namedIn, mostStructures}
 use Rattle.demands.specs.Engine.{Engine}
 
 -- ---- power-on
@@ -133,6 +134,24 @@ pub data StretchesRow (s : Station) (f places : List ℕ) (left : PlacesLeft) : 
   list-too-short
       : inRange s ≡ true → lengthFits (length f) ≡ true → placesFit f places ≡ false → left ≡ noPlaces BufferTooShort places → StretchesRow s f places left 3
 
+-- what became of each structure of the map. "Refusals: 1, 2, 4 and 5 as for a frame, 3 for a list of under 2,047 names": after each
+-- nothing is named. No state comes out
+pub record Passed (s : Station) (f names : List ℕ) : Type 0 where
+  pub state : inRange s ≡ true
+  pub frame : lengthFits (length f) ≡ true
+  pub list : mostStructures ≤ length names
+
+pub data NamesRow (s : Station) (f names : List ℕ) (left : NamesLeft) : ℕ → Type 0 where
+  done
+      : Passed s f names → (h : Hlend) → readHlend f ≡ fields h → headerEnd h ≤ length f → left ≡ namedIn s h f names → NamesRow s f names left 0
+  state-out-of-range : inRange s ≡ false → left ≡ unnamed StateOutOfRange names → NamesRow s f names left 1
+  frame-length-unfit : inRange s ≡ true → lengthFits (length f) ≡ false → left ≡ unnamed FrameLengthUnfit names → NamesRow s f names left 2
+  list-too-short
+      : inRange s ≡ true → lengthFits (length f) ≡ true → length names < mostStructures → left ≡ unnamed BufferTooShort names → NamesRow s f names left 3
+  hlend-unreadable : Passed s f names → readHlend f ≡ unreadable → left ≡ unnamed HlendUnreadable names → NamesRow s f names left 4
+  header-too-long
+      : Passed s f names → (h : Hlend) → readHlend f ≡ fields h → length f < headerEnd h → left ≡ unnamed HeaderTooLong names → NamesRow s f names left 5
+
 -- the writers: every value fits its field and the target has room; or nothing is changed
 pub data WriteRow (fit : Bool) (octets target left : List ℕ) : ℕ → Type 0 where
   done : fit ≡ true → length octets ≤ length target → left ≡ put target octets → WriteRow fit octets target left 0
@@ -152,6 +171,7 @@ pub record Demand1 (E : Engine) : Type 0 where
   pub key : (s : Station) (octets : List ℕ) → KeyRow s octets (E .giveKey s octets .station) (answerNumber (E .giveKey s octets .answer))
   pub stretch : (s : Station) (f : List ℕ) (k : ℕ) → StretchRow s f k (E .stretchPlace s f k) (answerNumber (E .stretchPlace s f k .answer))
   pub stretches : (s : Station) (f places : List ℕ) → StretchesRow s f places (E .stretchPlaces s f places) (answerNumber (E .stretchPlaces s f places .found .answer))
+  pub names : (s : Station) (f names : List ℕ) → NamesRow s f names (E .whyDark s f names) (answerNumber (E .whyDark s f names .found .answer))
   pub hlend : (h : Hlend) (t : List ℕ) → Writes (hlendFits h) (octets 4 (hlendWord h)) t (E .writers .hlend h t)
   pub allocation : (a : Allocation) (t : List ℕ) → Writes (allocationFits a) (octets 8 (allocationWord a)) t (E .writers .allocation a t)
   pub xgem : (x : XgemHeader) (t : List ℕ) → Writes (xgemFits x) (octets 8 (xgemWord x)) t (E .writers .xgem x t)

@@ -34,7 +34,7 @@ use Rattle.frame.specs.Given.{Arrival}
 use Rattle.downstream.specs.Partitions.{headerEnd, mapOf, messagesOf}
 use Rattle.frame.specs.Frame.{FrameLeft}
 use Rattle.demands.specs.Engine.{Engine}
-use Rattle.demands.specs.Runs.{Call, frame, lost, addPort, removePort, giveKey, Buffers, Progress, lend, isDone, after, runOf, start}
+use Rattle.demands.specs.Runs.{Call, frame, lost, addPort, removePort, giveKey, whyDark, Buffers, Progress, lend, isDone, after, runOf, start}
 
 -- ---- what the laser sends
 
@@ -62,6 +62,7 @@ burstsBy E st lost = []
 burstsBy E st (addPort port) = []
 burstsBy E st (removePort port) = []
 burstsBy E st (giveKey octets) = []
+burstsBy E st (whyDark f names) = []
 
 abbrev pub burstsFrom : Engine → Station → Progress → List Call → List Burst
 burstsFrom E first st [] = []

@@ -18,6 +18,7 @@ use Rattle.frame.specs.Frame.{FrameLeft, frameLeft}
 use Rattle.engine.specs.Lods.{lostLeft}
 use Rattle.engine.specs.declared.stretching.StretchPlace.{StretchPlace}
 use Rattle.engine.specs.Stretch.{PlacesLeft, stretchPlace, stretchPlaces}
+use Rattle.engine.specs.Naming.{NamesLeft, whyDark}
 
 -- what is written into a lent target
 pub record Writers : Type 0 where
@@ -35,6 +36,7 @@ pub record Engine : Type 0 where
   pub giveKey : Station → List ℕ → Outcome
   pub stretchPlace : Station → List ℕ → ℕ → StretchPlace
   pub stretchPlaces : Station → List ℕ → List ℕ → PlacesLeft
+  pub whyDark : Station → List ℕ → List ℕ → NamesLeft
   pub writers : Writers
 
 -- this one: each definition is the right side of the public call's contract
@@ -49,6 +51,7 @@ lingbarrow =
       giveKey = afterKey;
       stretchPlace = stretchPlace;
       stretchPlaces = stretchPlaces;
+      whyDark = whyDark;
       writers = record {
         hlend = xgtc-writing.writeHlend;
         allocation = xgtc-writing.writeAllocation;

@@ -1,13 +1,13 @@
 -- What else the paper promises of an engine: nobody else's bytes matter, the counts are true, what is not written stays, and a
 -- run never leaves the ranges.
 -- Assumes nothing.
-use Prim.Native.Nat.{ℕ, zero, suc, _+_, _*_}
+use Prim.Native.Nat.{ℕ, zero, suc, _+_, _*_, _<_}
 use mathlib.Core.Path.{_≡_}
-use mathlib.Core.Logic.{_⊎_}
+use mathlib.Core.Logic.{_⊎_, _↔_}
 use mathlib.Core.Bool.{true, false, cond}
 use mathlib.Core.List.{List, [], _∷_}
 use lib.Dec.{leb}
-use lib.ListN.{length, getD, take, drop}
+use lib.ListN.{length, getD, take, drop, replicate}
 use Rattle.octets.specs.Octets.{value}
 use Rattle.ids.specs.Ids.{managementPort}
 use Rattle.xgtc.specs.declared.hlend.Hlend.{Hlend}
@@ -17,14 +17,22 @@ use Rattle.ploam.specs.Layout.{messageOctets}
 use Rattle.station.specs.declared.Station.{Station}
 use Rattle.answers.specs.Answers.{answerNumber}
 use Rattle.station.specs.Limits.{registrationOctets}
-use Rattle.station.specs.States.{holdsIdentity}
+use Rattle.station.specs.States.{holdsIdentity, silent}
 use Rattle.link.specs.Link.{nothing}
 use Rattle.validity.specs.Ranges.{inRange}
+use Rattle.entries.specs.declared.Verdict.{Verdict}
+use Rattle.entries.specs.declared.Verdict.the-variants.{Silent}
+use Rattle.entries.specs.Names.{nameNumber}
+use Rattle.bwmap.specs.Verdicts.{entries}
+use Rattle.reasons.specs.Names.{TrueName}
+use Rattle.reasons.specs.Called.{calledPlanned, recordsCalled}
+use Rattle.downstream.specs.Partitions.{mapOf}
 use Rattle.plan.specs.Limits.{numbersARecord}
 use Rattle.plan.specs.Laser.{Sending}
 use Rattle.frame.specs.Given.{Arrival, Lent, withOctets}
-use Rattle.frame.specs.Frame.{FrameLeft, noCounts}
+use Rattle.frame.specs.Frame.{FrameLeft, noCounts, ownOf}
 use Rattle.engine.specs.Alike.{AlikeFrames}
+use Rattle.engine.specs.Naming.{NamesLeft}
 use Rattle.engine.specs.Counts.{Received, receiving, xgemFrames}
 use Rattle.engine.specs.declared.stretching.StretchPlace.{StretchPlace}
 use Rattle.demands.specs.Engine.{Engine}
@@ -111,6 +119,41 @@ RepliesKept E =
     (s : Station) (a : Arrival) (lent : Lent) → length (s .registration) ≡ registrationOctets
     → drop (messageOctets * E .frame s a lent .counts .replies) (E .frame s a lent .lent .replies)
     ≡ drop (messageOctets * E .frame s a lent .counts .replies) (lent .replies)
+
+-- ---- "Why did it stay dark?"
+
+-- an octet that is the number of a name
+pub record Name (octet : ℕ) : Type 0 where
+  pub verdict : Verdict
+  pub number : octet ≡ nameNumber verdict
+
+-- "names, for every structure of the map, what became of it"; "each name is given exactly when its fact holds and nothing earlier in this
+-- list applies", over the map as mended and the state in which the frame arrives
+pub record TrulyNamed (s : Station) (f : List ℕ) (left : NamesLeft) : Type 0 where
+  pub hlend : Hlend
+  pub reads : readHlend f ≡ fields hlend
+  pub count : left .found .count ≡ hlend .bwmap
+  pub every : (i : ℕ) → i < hlend .bwmap → Name (getD (left .names) i 0)
+  pub exact
+      : (i : ℕ) → i < hlend .bwmap → (v : Verdict)
+      → (getD (left .names) i 0 ≡ nameNumber v) ↔ TrueName (ownOf s) (mapOf hlend f) (s .carried) i v
+  -- "the silent state comes before all"
+  pub dark : silent (s .activation) ≡ true → take (hlend .bwmap) (left .names) ≡ replicate (hlend .bwmap) (nameNumber Silent)
+
+abbrev pub TruthfulNames : Engine → Type 0
+TruthfulNames E =
+    (s : Station) (f names : List ℕ) → answerNumber (E .whyDark s f names .found .answer) ≡ 0 → TrulyNamed s f (E .whyDark s f names)
+
+-- "The entries called planned are exactly the plan's": the records that the frame call leaves are those of the structures that are called
+-- planned, in map order, number by number
+abbrev pub PlannedNames : Engine → Type 0
+PlannedNames E =
+    (s : Station) (a : Arrival) (lent : Lent) (names : List ℕ) (h : Hlend)
+    → let left = E .frame s a lent in
+    let called = E .whyDark s (a .octets) names in
+    isDone (answerNumber (left .outcome .answer)) ≡ true → answerNumber (called .found .answer) ≡ 0 → readHlend (a .octets) ≡ fields h
+    → take (numbersARecord * left .counts .records) (left .lent .plan)
+    ≡ recordsCalled (calledPlanned (take (called .found .count) (called .names)) (entries (mapOf h (a .octets))))
 
 -- ---- over any run from power-on
 

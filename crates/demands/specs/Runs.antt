@@ -33,6 +33,7 @@ pub data Call : Type 0 where
   addPort : PortId → Call
   removePort : PortId → Call
   giveKey : List ℕ → Call
+  whyDark : List ℕ → List ℕ → Call
 
 -- how far a run has come: the state and the port memory, the frame times that have passed, and what befell the station
 pub record Progress : Type 0 where
@@ -93,6 +94,8 @@ module _ (E : Engine) (first : Station) where
       record { station = E .removePort (st .station) port .station; memory = st .memory; times = st .times; history = portRemoved port ∷ st .history }
   after st (giveKey octets) =
       record { station = E .giveKey (st .station) octets .station; memory = st .memory; times = st .times; history = keyGiven octets ∷ st .history }
+  -- "the tool moves no state"
+  after st (whyDark f names) = st
 
   -- calls one after another
   abbrev pub run : Progress → List Call → Progress

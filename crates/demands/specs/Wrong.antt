@@ -4,7 +4,7 @@
 use Prim.Native.Nat.{ℕ, _+_}
 use mathlib.Core.Bool.{cond}
 use mathlib.Core.List.{List, _∷_}
-use lib.ListN.{take, drop, replicate}
+use lib.ListN.{length, take, drop, replicate}
 use Rattle.ids.specs.Ids.{managementPort}
 use Rattle.xgtc.specs.declared.hlend.Hlend.{Hlend}
 use Rattle.xgem.specs.Reads.{Found, fields, unreadable, short}
@@ -26,13 +26,17 @@ use Rattle.frame.specs.declared.Counts.{Counts}
 use Rattle.station.specs.declared.Outcome.{Outcome}
 use Rattle.frame.specs.Given.{Arrival, Lent}
 use Rattle.frame.specs.Frame.{FrameLeft, refused, plannedIn, repliesIn, payloadIn, foundBy, done, handled, frameLeft}
+use Rattle.entries.specs.declared.Verdict.the-variants.{Foreign}
+use Rattle.entries.specs.Names.{nameNumber}
 use Rattle.engine.specs.Lods.{lostLeft}
+use Rattle.engine.specs.Naming.{NamesLeft, whyDark}
 use Rattle.demands.specs.Engine.{Writers, Engine, lingbarrow}
 
 -- ---- this engine with one call changed
 
-abbrev pub changed : (List ℕ → List ℕ → Station) → (Station → Arrival → Lent → FrameLeft) → (Station → Outcome) → Writers → Engine
-changed powerOn frame lost writers =
+abbrev pub changed
+    : (List ℕ → List ℕ → Station) → (Station → Arrival → Lent → FrameLeft) → (Station → Outcome) → (Station → List ℕ → List ℕ → NamesLeft) → Writers → Engine
+changed powerOn frame lost whyDark writers =
     record {
       powerOn = powerOn;
       frame = frame;
@@ -42,14 +46,15 @@ changed powerOn frame lost writers =
       giveKey = lingbarrow .giveKey;
       stretchPlace = lingbarrow .stretchPlace;
       stretchPlaces = lingbarrow .stretchPlaces;
+      whyDark = whyDark;
       writers = writers;
     }
 
 abbrev pub withPowerOn : (List ℕ → List ℕ → Station) → Engine
-withPowerOn call = changed call (lingbarrow .frame) (lingbarrow .lost) (lingbarrow .writers)
+withPowerOn call = changed call (lingbarrow .frame) (lingbarrow .lost) (lingbarrow .whyDark) (lingbarrow .writers)
 
 abbrev pub withCalls : (Station → Arrival → Lent → FrameLeft) → (Station → Outcome) → Engine
-withCalls frame lost = changed (lingbarrow .powerOn) frame lost (lingbarrow .writers)
+withCalls frame lost = changed (lingbarrow .powerOn) frame lost (lingbarrow .whyDark) (lingbarrow .writers)
 
 abbrev pub withFrame : (Station → Arrival → Lent → FrameLeft) → Engine
 withFrame call = withCalls call (lingbarrow .lost)
@@ -58,7 +63,10 @@ abbrev pub withLost : (Station → Outcome) → Engine
 withLost call = withCalls (lingbarrow .frame) call
 
 abbrev pub withWriters : Writers → Engine
-withWriters writers = changed (lingbarrow .powerOn) (lingbarrow .frame) (lingbarrow .lost) writers
+withWriters writers = changed (lingbarrow .powerOn) (lingbarrow .frame) (lingbarrow .lost) (lingbarrow .whyDark) writers
+
+abbrev pub withNames : (Station → List ℕ → List ℕ → NamesLeft) → Engine
+withNames call = changed (lingbarrow .powerOn) (lingbarrow .frame) (lingbarrow .lost) call (lingbarrow .writers)
 
 -- ---- refuses, plans, writes
 
@@ -156,6 +164,19 @@ inventedReplies = withCounts (λ c. record { records = c .records; replies = c .
 
 abbrev pub inventedBytes : Engine
 inventedBytes = withCounts (λ c. record { records = c .records; replies = c .replies; bytes = c .bytes + 1 })
+
+-- ---- wrong tools: the list gets other names, so many as are counted
+
+abbrev pub renamed : (List ℕ → List ℕ) → NamesLeft → List ℕ → NamesLeft
+renamed other left names = record { found = left .found; names = writing.put names (other (take (left .found .count) (left .names))) }
+
+-- one that calls everything foreign
+abbrev pub callsAllForeign : Engine
+callsAllForeign = withNames (λ s f names. renamed (λ l. replicate (length l) (nameNumber Foreign)) (whyDark s f names) names)
+
+-- one that names the first structure only
+abbrev pub namesTheFirst : Engine
+namesTheFirst = withNames (λ s f names. renamed (take 1) (whyDark s f names) names)
 
 -- ---- not of the paper's list
 

@@ -4,7 +4,7 @@ ghost use Rattle.downstream.specs.Lengths.{lengthFits};
 
 const LEAST_FRAME: usize = 4;
 
-const MOST_FRAME: usize = 135432;
+pub const MOST_FRAME: usize = 135432;
 
 const OCTETS_A_WORD: usize = 4;
 

@@ -12,6 +12,8 @@ use Rattle.frame.specs.Given.{Arrival, Lent}
 use Rattle.frame.specs.Frame.{FrameLeft, FrameLeaves}
 use Rattle.engine.specs.Lods.{LostLeaves}
 use Rattle.engine.specs.Stretch.{PlaceIs, StretchIs, PlacesLeft, PlacesAre}
+use Rattle.engine.specs.declared.naming.Named.{Named}
+use Rattle.engine.specs.Naming.{NamesLeft, NamesAre}
 
 pub frame-determined
     : (s : Station) (arrived : Arrival) (lent : Lent) (a b : FrameOutcome) (x y : Lent) → FrameLeaves s arrived lent a x → FrameLeaves s arrived lent b y
@@ -33,3 +35,8 @@ pub places-determined : (s : Station) (f places : List ℕ) (a b : StretchPlaces
 places-determined s f places a b x y p q =
     let same = p ∙ sym q in
     (ap (λ (l : PlacesLeft). l .found) same, ap (λ (l : PlacesLeft). l .places) same)
+
+pub names-determined : (s : Station) (f names : List ℕ) (a b : Named) (x y : List ℕ) → NamesAre s f names a x → NamesAre s f names b y → (a ≡ b) × (x ≡ y)
+names-determined s f names a b x y p q =
+    let same = p ∙ sym q in
+    (ap (λ (l : NamesLeft). l .found) same, ap (λ (l : NamesLeft). l .names) same)

@@ -4,3 +4,4 @@ pub mod Counts
 pub mod Lods
 pub mod Stretch
 pub mod Each
+pub mod Naming

@@ -2,6 +2,7 @@
 // every state, every frame and every lent buffer; what is unfit gets a number of the paper's table, and what is left after
 // each number is fixed.
 mod lods;
+mod naming;
 mod stretching;
 
 // The station's state, by value; `Station::power_on` gives O1 with nothing held or carried, and has no refusal.
@@ -25,6 +26,10 @@ pub use stretching::stretch;
 pub use stretching::BYTES_A_NUMBER;
 pub use stretching::StretchPlaces;
 pub use stretching::stretch_places;
+// What became of each structure of the frame's map, into a lent list of names. Answers 0 to 5.
+pub use naming::MOST_STRUCTURES;
+pub use naming::Named;
+pub use naming::why_dark;
 // The host adds a port, in the lowest empty slot. Answers 0, 1, 7, 8 or 9.
 pub use host::add_port;
 // The host removes a port. Answers 0, 1, 7 or 8.

@@ -1,2 +1,3 @@
 pub mod Limits
 pub mod Standings
+pub mod Names

@@ -1,4 +1,5 @@
 // The entries of the bandwidth map (clause 8.1.2), each by itself: read, usable or not, and whose it is.
+pub mod naming;
 pub mod reading;
 
 use ids::AllocId;
@@ -14,6 +15,7 @@ ghost use lib.ListN.{take};
 ghost use Rattle.xgtc.specs.Reads.{readAllocation, foundAllocation};
 ghost use Rattle.ids.specs.Places.{some};
 ghost use Rattle.ids.specs.Ids.{sameAlloc};
+ghost use Rattle.entries.specs.Names.{nameNumber};
 ghost use Rattle.entries.specs.Standings.{isPlanned, startUnfit, noRoom, continues, held, discovery, ranging, ours, sorted, standing};
 
 // Octets of an allocation structure.
@@ -44,6 +46,29 @@ pub enum Verdict {
     Silent,
 }
 
+// The numbers of the names that the verdicts have where they are told.
+pub const PLANNED: u8 = 0;
+
+pub const UNREADABLE: u8 = 1;
+
+pub const START_TIME_UNFIT: u8 = 2;
+
+pub const DBRU_WITHOUT_ROOM: u8 = 3;
+
+pub const FOREIGN: u8 = 4;
+
+pub const CONTINUING_NOTHING: u8 = 5;
+
+pub const SEVENTEENTH: u8 = 6;
+
+pub const TOO_LONG: u8 = 7;
+
+pub const OVERLAPPING: u8 = 8;
+
+pub const AFTER_THE_LAST: u8 = 9;
+
+pub const SILENT: u8 = 10;
+
 // An entry by itself: apart from every series, for a reason; or of ours, a head or one that continues.
 pub enum Standing {
     Apart(Verdict),
@@ -69,27 +94,45 @@ impl Verdict {
             Verdict::Silent => false,
         }
     }
+
+    pub fn number(self) -> u8
+        ensures { λ r. ⌜ r ≡ nameNumber self ⌝ }
+    {
+        match self {
+            Verdict::Planned => PLANNED,
+            Verdict::Unreadable => UNREADABLE,
+            Verdict::StartTimeUnfit => START_TIME_UNFIT,
+            Verdict::DbruWithoutRoom => DBRU_WITHOUT_ROOM,
+            Verdict::Foreign => FOREIGN,
+            Verdict::ContinuingNothing => CONTINUING_NOTHING,
+            Verdict::Seventeenth => SEVENTEENTH,
+            Verdict::TooLong => TOO_LONG,
+            Verdict::Overlapping => OVERLAPPING,
+            Verdict::AfterTheLast => AFTER_THE_LAST,
+            Verdict::Silent => SILENT,
+        }
+    }
 }
 
-fn start_unfit(a: Allocation) -> bool
+pub(crate) fn start_unfit(a: Allocation) -> bool
     ensures { λ r. ⌜ r ≡ startUnfit a ⌝ }
 {
     LAST_WORD < a.start && a.start < CONTINUING
 }
 
-fn no_room(a: Allocation) -> bool
+pub(crate) fn no_room(a: Allocation) -> bool
     ensures { λ r. ⌜ r ≡ noRoom a ⌝ }
 {
     a.dbru && a.grant == 0
 }
 
-fn continues(a: Allocation) -> bool
+pub(crate) fn continues(a: Allocation) -> bool
     ensures { λ r. ⌜ r ≡ continues a ⌝ }
 {
     a.start == CONTINUING
 }
 
-fn or_is(hit: bool, within: bool, id: AllocId, other: AllocId) -> bool
+pub(crate) fn or_is(hit: bool, within: bool, id: AllocId, other: AllocId) -> bool
     ensures { λ r. ⌜ r ≡ hit || (within && sameAlloc id other) ⌝ }
 {
     if hit {
@@ -125,7 +168,7 @@ fn held(onu: OnuId, allocs: Allocs, id: AllocId) -> bool
     among(ids, allocs.count, id)
 }
 
-fn discovery(a: Allocation) -> bool
+pub(crate) fn discovery(a: Allocation) -> bool
     ensures { λ r. ⌜ r ≡ discovery a ⌝ }
 {
     let id = a.alloc;
@@ -141,7 +184,7 @@ fn discovery(a: Allocation) -> bool
     false
 }
 
-fn ranging(onu: OnuId, a: Allocation) -> bool
+pub(crate) fn ranging(onu: OnuId, a: Allocation) -> bool
     ensures { λ r. ⌜ r ≡ ranging onu a ⌝ }
 {
     let id = a.alloc;

@@ -10,7 +10,7 @@ ghost use Rattle.xgtc.specs.Layouts.{allocationOf};
 ghost use Rattle.xgem.specs.Reads.{taken};
 ghost use Rattle.xgtc.specs.Reads.{readAllocation, foundAllocation};
 
-fn found(read: Reading64) -> AllocationRead
+pub(crate) fn found(read: Reading64) -> AllocationRead
     ensures { λ r. ⌜ foundAllocation r ≡ taken allocationOf (found64 read) ⌝ }
 {
     match read {

@@ -22,17 +22,19 @@ use Rattle.host.specs.Host.{afterAdd, afterRemove, afterKey}
 use Rattle.frame.specs.Given.{Arrival, Lent}
 use Rattle.frame.specs.Frame.{frameLeft}
 use Rattle.engine.specs.Lods.{lostLeft}
+use Rattle.engine.specs.Naming as naming
 use Rattle.invariants.proofs.InRange.{Sound, power-on-sound}
 use Rattle.layout.specs.Layout.{stateBytes, encoded, decoded, stored}
 use Rattle.layout.specs.Typed.{Typed}
 use Rattle.layout.proofs.RoundTrips.{written-read, read-stored, encoded-length}
 use Rattle.boundary.specs.Calls.{StateLeft, by, asked, keyLeft, lostOn, addOn, removeOn, keyOn, powerOnIn}
 use Rattle.boundary.specs.Frames.{BuffersLeft, countNumbers, afterFrame, frameBy, openedBy, frameOn}
+use Rattle.boundary.specs.Lists.{listCounts, listBy, listOn, named}
 use Rattle.demands.specs.Engine.{lingbarrow}
 use Rattle.demands.specs.Runs.{Call, Buffers, Progress, lend, runOf}
 use Rattle.demands.specs.Runs as engine
 use Rattle.demands.proofs.Runs.{Kept, call-kept, started}
-use Rattle.exported.specs.Runs.{Exported, frame, lost, addPort, removePort, giveKey, OfOctets, AllOfOctets, Held, lendTo, after, run, runIn, callsOf, engineCalls, engineRun, leaving, Linked, AlwaysLinked}
+use Rattle.exported.specs.Runs.{Exported, frame, lost, addPort, removePort, giveKey, whyDark, OfOctets, AllOfOctets, Held, lendTo, after, run, runIn, callsOf, engineCalls, engineRun, leaving, Linked, AlwaysLinked}
 use Rattle.exported.proofs.Widths.{Widths, power-on-widths, frame-widths, lost-call-widths, add-widths, remove-widths, key-widths}
 use Rattle.exported.proofs.Types.{typed}
 
@@ -133,6 +135,11 @@ module _ (b : List ℕ) (room : stateBytes ≤ length b) (first : Station) where
         memory = k .memory;
       }
 
+  -- "the tool moves no state"
+  names-along : (held : Held) (st : Progress) → Along b first held st → (f names : List ℕ) (r : Bool) → Along b first held (engine.run lingbarrow first st (cond r (engine.whyDark f names ∷ []) []))
+  names-along held st k f names true = k
+  names-along held st k f names false = k
+
   step : (held : Held) (st : Progress) (c : Exported) → Along b first held st → OfOctets c → Along b first (after held c) (engine.run lingbarrow first st (callsOf c))
   unfolding frameOn lostOn addOn removeOn keyOn keyLeft
   step held st (frame a counts buffers) k o = frame-along held st k a counts buffers o (leb countNumbers (length counts))
@@ -142,6 +149,7 @@ module _ (b : List ℕ) (room : stateBytes ≤ length b) (first : Station) where
   step held st (removePort number) k o =
       by-call held st k (engine.removePort (record { 0 = number })) (λ (s : Station). afterRemove s (record { 0 = number })) refl refl (remove-widths (st .station) (record { 0 = number }) (k .widths))
   step held st (giveKey key) k o = key-along held st k key (leb keyOctets (length key)) refl
+  step held st (whyDark f names counts) k o = names-along held st k f names (leb listCounts (length counts))
 
   run-join : (st : Progress) (l m : List Call) → engine.run lingbarrow first st (l ++ m) ≡ engine.run lingbarrow first (engine.run lingbarrow first st l) m
   run-join st [] m = refl
@@ -168,7 +176,7 @@ begun b serial registration memory room s r =
     }
 
 pub linked : AlwaysLinked
-unfolding frameOn lostOn addOn removeOn keyOn keyLeft
+unfolding frameOn lostOn addOn removeOn keyOn keyLeft listOn
 linked b serial registration memory calls room s r o =
     let first = powerOn (take serialOctets serial) (take registrationOctets registration) in
     let held = runIn b serial registration memory calls in
@@ -183,4 +191,5 @@ linked b serial registration memory calls room s r o =
       adds = λ number. ap (λ (z : Found Station). by z (λ (x : Station). afterAdd x (record { 0 = number })) (held .state)) e;
       removes = λ number. ap (λ (z : Found Station). by z (λ (x : Station). afterRemove x (record { 0 = number })) (held .state)) e;
       keys = λ key h. rw (le-leb keyOctets (length key) h) (ap (λ (z : Found Station). by z (λ (x : Station). afterKey x (take keyOctets key)) (held .state)) e);
+      names = λ f names counts h. rw (le-leb listCounts (length counts) h) (ap (λ (z : Found Station). listBy z (λ (x : Station). named (naming.whyDark x f names)) names counts) e);
     }

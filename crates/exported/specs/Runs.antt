@@ -17,6 +17,7 @@ use Rattle.station.specs.declared.Outcome.{Outcome}
 use Rattle.layout.specs.Layout.{stateBytes, encoded, stored}
 use Rattle.boundary.specs.Calls.{StateLeft, lostOn, addOn, removeOn, keyOn, powerOnIn}
 use Rattle.boundary.specs.Frames.{countNumbers, afterFrame, frameOn}
+use Rattle.boundary.specs.Lists.{listCounts, listed, named, whyDarkOn}
 use Rattle.demands.specs.Engine.{lingbarrow}
 use Rattle.demands.specs.Runs.{Call, Buffers, Progress, lend, runOf}
 use Rattle.demands.specs.Runs as engine
@@ -28,6 +29,7 @@ pub data Exported : Type 0 where
   addPort : ℕ → Exported
   removePort : ℕ → Exported
   giveKey : List ℕ → Exported
+  whyDark : List ℕ → List ℕ → List ℕ → Exported
 
 -- the octets of a frame are octets: C's type says so
 abbrev pub OfOctets : Exported → Type 0
@@ -36,6 +38,7 @@ OfOctets lost = Unit {0}
 OfOctets (addPort number) = Unit {0}
 OfOctets (removePort number) = Unit {0}
 OfOctets (giveKey key) = Unit {0}
+OfOctets (whyDark f names counts) = Unit {0}
 
 abbrev pub AllOfOctets : List Exported → Type 0
 AllOfOctets [] = Unit {0}
@@ -56,6 +59,7 @@ after held lost = record { state = lostOn (held .state) .state; memory = held .m
 after held (addPort number) = record { state = addOn (held .state) number .state; memory = held .memory }
 after held (removePort number) = record { state = removeOn (held .state) number .state; memory = held .memory }
 after held (giveKey key) = record { state = keyOn (held .state) key .state; memory = held .memory }
+after held (whyDark f names counts) = held
 
 abbrev pub run : Held → List Exported → Held
 run held [] = held
@@ -74,6 +78,7 @@ callsOf lost = engine.lost ∷ []
 callsOf (addPort number) = engine.addPort (record { 0 = number }) ∷ []
 callsOf (removePort number) = engine.removePort (record { 0 = number }) ∷ []
 callsOf (giveKey key) = cond (leb keyOctets (length key)) (engine.giveKey (take keyOctets key) ∷ []) []
+callsOf (whyDark f names counts) = cond (leb listCounts (length counts)) (engine.whyDark f names ∷ []) []
 
 abbrev pub engineCalls : List Exported → List Call
 engineCalls [] = []
@@ -116,6 +121,11 @@ pub record Linked (b serial registration memory : List ℕ) (calls : List Export
       → let held = runIn b serial registration memory calls in
       let st = engineRun serial registration memory calls in
       keyOn (held .state) key ≡ leaving (lingbarrow .giveKey (st .station) (take keyOctets key)) (held .state)
+  pub names
+      : (f names counts : List ℕ) → listCounts ≤ length counts
+      → let held = runIn b serial registration memory calls in
+      let st = engineRun serial registration memory calls in
+      whyDarkOn (held .state) f names counts ≡ listed (named (lingbarrow .whyDark (st .station) f names)) counts
 
 -- of every buffer that holds a state, every serial number and Registration ID that is long enough, every port memory and every list of calls
 abbrev pub AlwaysLinked : Type 0

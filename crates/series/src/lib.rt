@@ -80,7 +80,7 @@ pub fn goes_on(s: Open) -> bool
 }
 
 // What becomes of a burst of so many words at `start`.
-fn judge(around: Around, start: usize, words: usize) -> Verdict
+pub fn judge(around: Around, start: usize, words: usize) -> Verdict
     ensures { λ r. ⌜ r ≡ judged around start words ⌝ }
 {
     if WORDS_A_BURST < words {

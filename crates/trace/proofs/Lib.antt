@@ -1,5 +1,4 @@
-pub mod Decimals
-pub mod Texts
+pub mod Moves
 pub mod LineParts
 pub mod Steps
 pub mod OneByOne

@@ -1,6 +1,9 @@
 -- `boundary::stretching::lingbarrow_stretches` meets its contract.
 -- Assumes nothing.
+use mathlib.Core.Path.{ap}
 use denote.Ref.{now}
+use Rattle.engine.specs.Stretch.{stretchPlaces}
+use Rattle.boundary.specs.Lists.{stretches}
 use Rattle.boundary.proofs.Laws.{is-held, is-unreadable, is-short}
 use Rattle.boundary.proofs.Lists.{not-counted, list-held, list-unreadable, list-short}
 use borrow.Author.Needs.{needs}
@@ -13,7 +16,7 @@ opened-requires c κs = search needs
 returns : tie.Need-returns
 returns c =
     let a = c .before .before .before .before .before .before .args in
-    not-counted (now (a .state)) (now (a .frame)) (now (a .places)) (now (a .counts)) _ (c .before .if1 .taken) (c .opened .ensures)
+    not-counted (now (a .state)) (now (a .frame)) (λ s. stretches (stretchPlaces s (now (a .frame)) (now (a .places)))) (now (a .places)) (now (a .counts)) _ (c .before .if1 .taken) (c .opened .ensures)
 
 read-state-requires : tie.Need-read-state-requires
 read-state-requires c κs = search needs
@@ -51,7 +54,7 @@ same-length-2 c = search needs
 returns-2 : tie.Need-returns-2
 returns-2 c =
     let a = c .before .before .before .before .before .before .before .before .before .before .before .before .before .before .before .before .before .before .args in
-    list-held (now (a .state)) (now (a .frame)) (now (a .places)) (now (a .counts)) (c .before .before .before .before .before .before .before .before .before .before .before .before .before .if1 .left) (c .before .before .before .before .before .before .before .before .before .before .before .before .read-state .result .station) (c .before .before .before .before .before .before .before .stretch-places .result) _ _ _ (is-held (now (c .before .before .before .before .before .before .before .before .before .before .before .before .before .before .before .before .before .before .args .state)) (c .before .before .before .before .before .before .before .before .before .before .before .before .read-state .result) (c .before .before .before .before .before .before .before .before .before .before .before .before .read-state .ensures) (c .before .before .before .before .before .before .before .before .before .enum-told .given .1)) (c .before .before .before .before .before .before .before .stretch-places .ensures) (c .number .ensures) (c .before .before .before .put-count .ensures)
+    list-held (now (a .state)) (now (a .frame)) (λ s. stretches (stretchPlaces s (now (a .frame)) (now (a .places)))) (now (a .places)) (now (a .counts)) (c .before .before .before .before .before .before .before .before .before .before .before .before .before .if1 .left) (c .before .before .before .before .before .before .before .before .before .before .before .before .read-state .result .station) _ _ _ (is-held (now (c .before .before .before .before .before .before .before .before .before .before .before .before .before .before .before .before .before .before .args .state)) (c .before .before .before .before .before .before .before .before .before .before .before .before .read-state .result) (c .before .before .before .before .before .before .before .before .before .before .before .before .read-state .ensures) (c .before .before .before .before .before .before .before .before .before .enum-told .given .1)) (ap stretches (c .before .before .before .before .before .before .before .stretch-places .ensures)) (c .number .ensures) (c .before .before .before .put-count .ensures)
 
 same-length-3 : tie.Need-same-length-3
 same-length-3 c = search needs
@@ -59,7 +62,7 @@ same-length-3 c = search needs
 returns-3 : tie.Need-returns-3
 returns-3 c =
     let a = c .before .before .before .before .before .before .before .before .before .before .before .before .before .args in
-    list-unreadable (now (a .state)) (now (a .frame)) (now (a .places)) (now (a .counts)) (c .before .before .before .before .before .before .before .before .if1 .left) _ (is-unreadable (now (c .before .before .before .before .before .before .before .before .before .before .before .before .before .args .state)) (c .before .before .before .before .before .before .before .read-state .result) (c .before .before .before .before .before .before .before .read-state .ensures) (c .before .before .before .before .enum-told2 .given .1)) (c .before .before .put-count2 .ensures)
+    list-unreadable (now (a .state)) (now (a .frame)) (λ s. stretches (stretchPlaces s (now (a .frame)) (now (a .places)))) (now (a .places)) (now (a .counts)) (c .before .before .before .before .before .before .before .before .if1 .left) _ (is-unreadable (now (c .before .before .before .before .before .before .before .before .before .before .before .before .before .args .state)) (c .before .before .before .before .before .before .before .read-state .result) (c .before .before .before .before .before .before .before .read-state .ensures) (c .before .before .before .before .enum-told2 .given .1)) (c .before .before .put-count2 .ensures)
 
 same-length-4 : tie.Need-same-length-4
 same-length-4 c = search needs
@@ -67,7 +70,7 @@ same-length-4 c = search needs
 returns-4 : tie.Need-returns-4
 returns-4 c =
     let a = c .before .before .before .before .before .before .before .before .before .before .before .before .before .args in
-    list-short (now (a .state)) (now (a .frame)) (now (a .places)) (now (a .counts)) (c .before .before .before .before .before .before .before .before .if1 .left) _ (is-short (now (c .before .before .before .before .before .before .before .before .before .before .before .before .before .args .state)) (c .before .before .before .before .before .before .before .read-state .result) (c .before .before .before .before .before .before .before .read-state .ensures) (c .before .before .before .before .enum-told3 .given .1)) (c .before .before .put-count3 .ensures)
+    list-short (now (a .state)) (now (a .frame)) (λ s. stretches (stretchPlaces s (now (a .frame)) (now (a .places)))) (now (a .places)) (now (a .counts)) (c .before .before .before .before .before .before .before .before .if1 .left) _ (is-short (now (c .before .before .before .before .before .before .before .before .before .before .before .before .before .args .state)) (c .before .before .before .before .before .before .before .read-state .result) (c .before .before .before .before .before .before .before .read-state .ensures) (c .before .before .before .before .enum-told3 .given .1)) (c .before .before .put-count3 .ensures)
 
 pub lingbarrow-stretches-spec : {M : Type 1} → statement M
 lingbarrow-stretches-spec =

@@ -5,7 +5,7 @@ use mathlib.Core.List.{_++_}
 use Prim.Native.Nat.{_+_, _-_, _≤_}
 use native.Mathlib.Omega.{arith}
 use lib.ListN.{length, take, drop, length-set}
-use Rattle.trace.proofs.Texts.{moved-on, moved-all}
+use Rattle.trace.proofs.Moves.{moved-on, moved-all}
 use Rattle.trace.proofs.blocks.move_to_front.Statement.{statement}
 use Rattle.trace.proofs.blocks.move_to_front.Tie as tie
 

@@ -1,0 +1,14 @@
+pub mod Belonging
+pub mod Whole
+pub mod Standing
+pub mod Before
+pub mod Runs
+pub mod Firsts
+pub mod Alone
+pub mod Among
+pub mod Open
+pub mod Walked
+pub mod Every
+pub mod TrueNames
+pub mod Numbered
+pub mod Called

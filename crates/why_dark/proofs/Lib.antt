@@ -1,0 +1,4 @@
+pub mod Lines
+pub mod Counted
+pub mod Frames
+pub mod Lengths
