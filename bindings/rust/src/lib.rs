@@ -135,6 +135,7 @@ pub mod stack {
     pub const GIVE_KEY: usize = 1_584;
     pub const STRETCH: usize = 1_120;
     pub const STRETCHES: usize = 1_136;
+    pub const WHY_DARK: usize = 1_248;
     pub const WRITE_HLEND: usize = 160;
     pub const WRITE_ALLOCATION: usize = 192;
     pub const WRITE_XGEM_FRAME: usize = 208;
