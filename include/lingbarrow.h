@@ -89,7 +89,7 @@ extern "C" {
 #define LINGBARROW_O7 7
 
 /* What became of a structure of the map, as lingbarrow_why_dark names it: the first of these that is so, but for the last, which comes
- * before all. The last three but one are of a whole burst, and each of its structures has the burst's name. */
+ * before all. 7 to 9 are of a whole burst, and each of its structures has that name. */
 #define LINGBARROW_NAME_PLANNED 0
 #define LINGBARROW_NAME_UNREADABLE 1         /* no true word is near */
 #define LINGBARROW_NAME_START_TIME_UNFIT 2   /* 9720 to 65534 */

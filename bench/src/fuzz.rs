@@ -166,8 +166,8 @@ fn all_stretches(rng: &mut Rng, state: *const u8, peer: &Station, f: &[u8]) -> u
 
 /// What became of each structure of the frame's map, before its frame call: as the independent engine names it, and past the names the
 /// list is as it was. A list that is too short, or no room for the count, is answered 3 where 1 and 2 is not the answer. What is returned
-/// is how many are named planned.
-fn names(rng: &mut Rng, state: *const u8, peer: &Station, f: &[u8], named: &mut [u64; 11]) -> usize {
+/// is how many are named planned, where any are named.
+fn names(rng: &mut Rng, state: *const u8, peer: &Station, f: &[u8], named: &mut [u64; 11]) -> Option<usize> {
     let call = |names: &mut [u8], count: &mut [usize]| unsafe {
         lingbarrow_why_dark(state, STATE, f.as_ptr(), f.len(), names.as_mut_ptr(), names.len(), count.as_mut_ptr(), count.len())
     };
@@ -182,7 +182,7 @@ fn names(rng: &mut Rng, state: *const u8, peer: &Station, f: &[u8], named: &mut 
     let short = if said.number() == 1 || said.number() == 2 { said.number() } else { 3 };
     assert_eq!(call(&mut ours, &mut []), short, "the names: no room for the count");
     assert!(ours == theirs, "the names: no room for the count");
-    planned
+    (said.number() == 0).then_some(planned)
 }
 
 /// How many deliveries stand in so many bytes.
@@ -361,7 +361,7 @@ fn main() {
                     assert_eq!(counts, [out.records, out.replies, out.delivered], "the counts");
                     if answer == 0 || answer == 6 {
                         assert_eq!(deliveries(&lent.deliveries[..out.delivered]), found, "as many stretches as deliveries");
-                        assert!(planned == 0 || planned == out.records, "as many planned names as records");
+                        assert_eq!(planned.unwrap_or(out.records), out.records, "as many planned names as records");
                     }
                     (0..3).for_each(|i| written[i] += counts[i]);
                     (answer, out.answer.number())

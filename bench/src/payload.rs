@@ -3,7 +3,7 @@
 use crate::{compare, Rng};
 use std::hint::black_box;
 use xgpon_peer::limits::{FRAME_MAX, MEMORY_BYTES, PLAN_NUMBERS, REPLY_BYTES};
-use xgpon_peer::{frame, layout, Activation, Lent, OnuId, PortId, Station, XgemHeader};
+use xgpon_peer::{frame, layout, Lent, PortId, Station, XgemHeader};
 
 extern "C" {
     fn bench_receive(
@@ -90,15 +90,8 @@ struct Both {
 
 impl Both {
     fn new() -> Both {
-        let mut station = Station::power_on([1; 8], [7; 36]);
-        station.activation = Activation::Operation;
-        station.onu_id = OnuId(5);
-        for i in 0..16 {
-            station.add_port(PortId(3000 + 11 * i));
-        }
-        station.waiting = [false; 17];
         Both {
-            station,
+            station: crate::stretches::station(),
             memory: [vec![0; MEMORY_BYTES], vec![0; MEMORY_BYTES]],
             deliveries: [vec![0; FRAME_MAX + MEMORY_BYTES], vec![0; FRAME_MAX + MEMORY_BYTES]],
             plan: vec![0; PLAN_NUMBERS],

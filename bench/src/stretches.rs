@@ -9,7 +9,8 @@ extern "C" {
     fn bench_stretches(frame: *const u8, frame_len: usize, first: usize, places: *mut usize, places_len: usize) -> usize;
 }
 
-fn station() -> Station {
+/// In O5, ONU-ID 5, with sixteen ports that don't wait.
+pub fn station() -> Station {
     let mut station = Station::power_on([1; 8], [7; 36]);
     station.activation = Activation::Operation;
     station.onu_id = OnuId(5);
