@@ -1,5 +1,7 @@
 // AES-128 (FIPS 197) on words. Each round key is made from the one before while the blocks are worked, so that no more than one
 // stands beside the key; up to eight blocks are worked side by side, and share it.
+#![tactic(auto)]
+
 ghost use Rattle.std.specs.Prelude.{cond, ◌≡◌, min, ◌+◌, ◌-◌, ◌*◌, ◌/◌, ◌%◌, ◌≤◌, ◌<◌, ltb, length};
 ghost use Rattle.subbytes.specs.Field.{xtime};
 ghost use Rattle.aes.specs.Cipher.{aes128};
@@ -8,7 +10,7 @@ ghost use Rattle.aes.specs.OnWords.{round_on, last_column_on, last_on, turned_wo
 ghost use Rattle.aes.specs.Blocks.{most_blocks, block_in, with_block, each};
 
 // A block, a state or a round key: the first octet is the highest of a.
-#[derive(Drop)]
+#[derive(Clone, Copy)]
 pub struct Words {
     pub a: u32,
     pub b: u32,

@@ -1,4 +1,6 @@
 // What a call answers: the paper's table "What comes back", and the number of each answer in it.
+#![tactic(auto)]
+
 ghost use Rattle.std.specs.Prelude.{◌≡◌};
 ghost use Rattle.answers.specs.Answers.{answer_number};
 
@@ -27,7 +29,7 @@ pub const KEY_REFUSED: u8 = 10;
 
 pub const NOT_WRITTEN: u8 = 11;
 
-#[derive(Drop)]
+#[derive(Clone, Copy)]
 pub enum Answer {
     Done,
     StateOutOfRange,

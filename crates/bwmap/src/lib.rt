@@ -17,7 +17,7 @@ use series::Around;
 use station::limits::UPSTREAM_WORDS;
 
 // What is planned of a map.
-#[derive(Drop)]
+#[derive(Clone, Copy)]
 pub struct Plan {
     // Records of four numbers at the start of the plan.
     pub records: usize,
@@ -30,21 +30,21 @@ pub struct Plan {
     pub carried: u16,
 }
 
-#[derive(Drop)]
+#[derive(Clone, Copy)]
 pub enum Planning {
     Planned(Plan),
     PlanTooShort,
 }
 
 // How many structures have a name.
-#[derive(Drop)]
+#[derive(Clone, Copy)]
 pub enum Naming {
     Named(usize),
     ListTooShort,
 }
 
 // How far a walk has come: the next entry, and what is planned of those before it.
-#[derive(Drop)]
+#[derive(Clone, Copy)]
 pub struct Walk {
     pub at: usize,
     pub records: usize,

@@ -14,7 +14,7 @@ use entries::{Own, STRUCTURE_OCTETS, Standing};
 use series::{Around, Open};
 
 // How far the walk has come: what is planned of the series that have ended, and the one that is open.
-#[derive(Drop)]
+#[derive(Clone, Copy)]
 pub struct Course {
     pub around: Around,
     pub series: Open,

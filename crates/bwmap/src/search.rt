@@ -10,7 +10,7 @@ use series::{Around, Open};
 use xgtc::allocation::Allocation;
 
 // The next series that is planned, read until the entry before which it ends.
-#[derive(Drop)]
+#[derive(Clone, Copy)]
 pub enum Next {
     Until(usize, Open),
     Nowhere,

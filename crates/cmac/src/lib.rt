@@ -1,5 +1,7 @@
 // AES-CMAC (RFC 4493) of a lent slice, and its first 64 bits, under a key that is prepared once for many messages; of up to eight
 // messages of one length at once, whose blocks are enciphered side by side.
+#![tactic(auto)]
+
 ghost use Rattle.std.specs.Prelude.{◌≡◌, min, ◌+◌, ◌-◌, ◌*◌, ◌/◌, ◌<◌, ◌≤◌, ◌^◌, length, take};
 ghost use Rattle.aes.specs.Words.{octets_of, words_of, added};
 ghost use Rattle.cmac.specs.Mac.{padded_at, block_at, cmac};
@@ -9,7 +11,7 @@ ghost use Rattle.cmac.specs.Tags.{shifted_word, last_word, doubled_words, Ready,
 use aes::Words;
 
 // The key, and its subkeys K1 for a whole last block and K2 for a padded one.
-#[derive(Drop)]
+#[derive(Clone, Copy)]
 pub struct Prepared {
     pub key: Words,
     pub whole: Words,

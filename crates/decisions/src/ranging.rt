@@ -8,7 +8,7 @@ use ploam::{Adjustment, Completion};
 use station::{O4, O5};
 
 // Where a delay goes: to a number of 32 bits, or outside.
-#[derive(Drop)]
+#[derive(Clone, Copy)]
 pub enum Target {
     To(u32),
     Outside,

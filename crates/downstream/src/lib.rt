@@ -11,7 +11,7 @@ use answers::Answer;
 use xgtc::hlend::{Hlend, HlendRead};
 
 // Refused by 1 to 3, and no frame time passes; unread by 4 or 5, and one passes; or open, with its HLend.
-#[derive(Drop)]
+#[derive(Clone, Copy)]
 pub enum Opening {
     Refused(Answer),
     Unread(Answer),

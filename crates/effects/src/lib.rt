@@ -12,7 +12,7 @@ use station::{Activation, Station};
 mod changes;
 
 // What becomes of the state.
-#[derive(Drop)]
+#[derive(Clone, Copy)]
 pub enum Change {
     Keep,
     Identify(OnuId),
@@ -24,13 +24,13 @@ pub enum Change {
 }
 
 // What the station then owes.
-#[derive(Drop)]
+#[derive(Clone, Copy)]
 pub enum Debt {
     Free,
     Owes(Owed),
 }
 
-#[derive(Drop)]
+#[derive(Clone, Copy)]
 pub struct Effect {
     pub change: Change,
     pub debt: Debt,

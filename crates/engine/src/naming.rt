@@ -14,7 +14,7 @@ use xgtc::hlend::Hlend;
 pub const MOST_STRUCTURES: usize = 2047;
 
 // How many structures have their name in the lent list; the frame call's answer, without 6, where 3 is about the list.
-#[derive(Drop)]
+#[derive(Clone, Copy)]
 pub struct Named {
     pub answer: Answer,
     pub count: usize,

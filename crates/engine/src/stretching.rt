@@ -13,7 +13,7 @@ use xgtc::hlend::Hlend;
 pub const BYTES_A_NUMBER: usize = 8;
 
 // Where in the frame the stretch stands, and its length; the frame call's answer, without 3.
-#[derive(Drop)]
+#[derive(Clone, Copy)]
 pub struct StretchPlace {
     pub answer: Answer,
     pub at: usize,
@@ -22,7 +22,7 @@ pub struct StretchPlace {
 
 // How many deliveries the frame has, each with its place and length in the lent list; the frame call's answer, where 3 is about
 // the list.
-#[derive(Drop)]
+#[derive(Clone, Copy)]
 pub struct StretchPlaces {
     pub answer: Answer,
     pub count: usize,

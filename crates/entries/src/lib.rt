@@ -22,7 +22,7 @@ pub const STRUCTURE_OCTETS: usize = 8;
 const CONTINUING: u16 = 65535;
 
 // What decides which grants are a station's, as its frame arrives.
-#[derive(Drop)]
+#[derive(Clone, Copy)]
 pub struct Own {
     pub activation: Activation,
     pub onu: OnuId,
@@ -30,7 +30,7 @@ pub struct Own {
 }
 
 // What becomes of an entry of the map.
-#[derive(Drop)]
+#[derive(Clone, Copy)]
 pub enum Verdict {
     Planned,
     Unreadable,
@@ -69,7 +69,7 @@ pub const AFTER_THE_LAST: u8 = 9;
 pub const SILENT: u8 = 10;
 
 // An entry by itself: apart from every series, for a reason; or of ours, a head or one that continues.
-#[derive(Drop)]
+#[derive(Clone, Copy)]
 pub enum Standing {
     Apart(Verdict),
     Head(Allocation),

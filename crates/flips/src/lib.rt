@@ -1,5 +1,7 @@
 // Which places of a damaged word are flipped, by the remainder of its code bits: the higher place, 64 times the other one,
 // with 63 where there is none, and 4,096 times how many they are. 3 says that no two bits leave this remainder.
+#![tactic(auto)]
+
 ghost use Rattle.std.specs.Prelude.{◌≡◌, ◌++◌, ◌/◌, ◌%◌, get_or};
 ghost use Rattle.bch.specs.Tables.{Flips};
 ghost use Rattle.flips.specs.Lower.{lower};

@@ -1,4 +1,6 @@
 // What a fragment does to the port that it is for. The decision is apart from what then happens: it needs the ports alone.
+#![tactic(auto)]
+
 ghost use Rattle.std.specs.Prelude.{◌≡◌, cond, ◌+◌, ◌≤◌, ◌<◌};
 ghost use Rattle.ids.specs.Ids.{same_port};
 ghost use Rattle.ports.specs.Limits.{slots, added_ports};
@@ -9,7 +11,7 @@ ghost use Rattle.fragments.specs.Marks.{marks};
 use ids::{Place, PortId};
 use ports::{ADDED_PORTS, SDU_BYTES, SLOTS};
 
-#[derive(Drop)]
+#[derive(Clone, Copy)]
 pub enum Reassembly {
     Ignored,
     // the slot's partial is dropped, and its port waits or not

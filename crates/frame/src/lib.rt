@@ -22,7 +22,7 @@ use xgtc::hlend::Hlend;
 
 // How much a frame call has written: records of four numbers in the plan, messages of 48 octets in the replies, bytes in the
 // deliveries.
-#[derive(Drop)]
+#[derive(Clone, Copy)]
 pub struct Counts {
     pub records: usize,
     pub replies: usize,
@@ -43,7 +43,7 @@ impl Counts {
 }
 
 // What a frame call returns: an outcome, and how much it has written.
-#[derive(Drop)]
+#[derive(Clone, Copy)]
 pub struct FrameOutcome {
     pub answer: Answer,
     pub station: Station,

@@ -1,5 +1,7 @@
 // The header error control of G.987.3, Annex A: words of 32 and of 64 bits, the last 13 of which protect the others. A
 // word is read as the true word of its length at most two bits away.
+#![tactic(auto)]
+
 ghost use Rattle.std.specs.Prelude.{◌≡◌, ◌%◌, ◌^◌};
 ghost use Rattle.hec.specs.Reads.{Reads, found32, found64};
 ghost use Rattle.hec.specs.Writes.{Written};
@@ -8,20 +10,20 @@ mod damage;
 mod protect;
 
 // A true word of 32 bits. Only this crate makes one, so whatever is taken from one has been checked and mended.
-#[derive(Drop)]
+#[derive(Clone, Copy)]
 pub struct Word32(u32);
 
 // A true word of 64 bits.
-#[derive(Drop)]
+#[derive(Clone, Copy)]
 pub struct Word64(u64);
 
-#[derive(Drop)]
+#[derive(Clone, Copy)]
 pub enum Reading32 {
     Word(Word32),
     Unreadable,
 }
 
-#[derive(Drop)]
+#[derive(Clone, Copy)]
 pub enum Reading64 {
     Word(Word64),
     Unreadable,

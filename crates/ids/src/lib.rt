@@ -1,5 +1,7 @@
 // The identifiers of G.987.3, clause 6.4. ONU-ID, Alloc-ID and Port-ID often carry one and the same number, so each
 // kind has a type of its own, and the only ways from one to another are the two that the clause allows.
+#![tactic(auto)]
+
 ghost use Rattle.std.specs.Prelude.{◌≡◌};
 ghost use Rattle.ids.specs.Ids.{default_alloc_lem, management_port_lem};
 ghost use Rattle.ids.specs.Ids.{broadcast_onu, broadcast_alloc, idle_port};
@@ -8,19 +10,19 @@ ghost use Rattle.ids.specs.Ids.{same_onu, same_alloc, same_port};
 ghost use Rattle.ids.specs.Places.{is_held};
 
 // Names a station on the branch: 10 bits.
-#[derive(Drop)]
+#[derive(Clone, Copy)]
 pub struct OnuId(pub u16);
 
 // Names a recipient of upstream grants: 14 bits.
-#[derive(Drop)]
+#[derive(Clone, Copy)]
 pub struct AllocId(pub u16);
 
 // Names an XGEM port: 16 bits.
-#[derive(Drop)]
+#[derive(Clone, Copy)]
 pub struct PortId(pub u16);
 
 // Where an identifier stands in a list, if it does.
-#[derive(Drop)]
+#[derive(Clone, Copy)]
 pub enum Place {
     At(usize),
     Nowhere,

@@ -1,4 +1,6 @@
 // The integrity check of a PLOAM message (G.987.3, clause 15.6), and which key it is made with.
+#![tactic(auto)]
+
 ghost use Rattle.std.specs.Prelude.{◌≡◌, ◌∷◌, ◌+◌, ◌*◌, ◌≤◌, length, take};
 ghost use Rattle.std.proofs.Math.Seq.{paste};
 ghost use Rattle.aes.specs.Words.{words_of};
@@ -30,7 +32,7 @@ pub const NOT_RIGHT: u8 = 2;
 const ROW_OCTETS: usize = 41;
 
 // Which way a message goes: it is a part of what the integrity field covers.
-#[derive(Drop)]
+#[derive(Clone, Copy)]
 pub enum Direction {
     Downstream,
     Upstream,

@@ -13,7 +13,7 @@ use station::Station;
 pub const STATE_BYTES: usize = offsets::STATE_BYTES;
 
 // What stands in a buffer: a state, octets that are no state's, or too few.
-#[derive(Drop)]
+#[derive(Clone, Copy)]
 pub enum Contents {
     Held,
     Unreadable,
@@ -21,7 +21,7 @@ pub enum Contents {
 }
 
 // The station counts only where a state is held.
-#[derive(Drop)]
+#[derive(Clone, Copy)]
 pub struct StateRead {
     pub contents: Contents,
     pub station: Station,

@@ -1,4 +1,6 @@
 // What the head end gives a station and what the station owes it: all that entering O1, O2-3 or O7 forgets.
+#![tactic(auto)]
+
 ghost use Rattle.std.specs.Prelude.{◌≡◌, Bool, ◌<◌, ◌≤◌, length, take};
 ghost use Rattle.ids.specs.Ids.{same_alloc};
 ghost use Rattle.ids.specs.Places.{place_from, Below};
@@ -20,41 +22,41 @@ pub const MOST_OWED: usize = 8;
 pub const KEY_OCTETS: usize = 16;
 
 // What an upstream message answers.
-#[derive(Drop)]
+#[derive(Clone, Copy)]
 pub enum Response {
     Registration,
     Acknowledgement(Completion),
 }
 
 // An answer owed repeats the SeqNo of the message that asked for it.
-#[derive(Drop)]
+#[derive(Clone, Copy)]
 pub struct Owed {
     pub response: Response,
     pub seq_no: u8,
 }
 
 // The PLOAM integrity key of clause 15.3.2. One that is not held is sixteen zeros.
-#[derive(Drop)]
+#[derive(Clone, Copy)]
 pub struct Key {
     pub held: bool,
     pub octets: [u8; 16],
 }
 
 // The added Alloc-IDs in the order of their adding; past the count there is 0.
-#[derive(Drop)]
+#[derive(Clone, Copy)]
 pub struct Allocs {
     pub ids: [AllocId; 16],
     pub count: usize,
 }
 
 // The answers owed, oldest first; past the count they are blank.
-#[derive(Drop)]
+#[derive(Clone, Copy)]
 pub struct Queue {
     pub answers: [Owed; 8],
     pub count: usize,
 }
 
-#[derive(Drop)]
+#[derive(Clone, Copy)]
 pub struct Link {
     // The broadcast number while none is held.
     pub onu: OnuId,

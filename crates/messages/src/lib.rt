@@ -18,7 +18,7 @@ use ploam::{MESSAGE_OCTETS, Received};
 use station::Station;
 
 // What a message does, and where the window of verdicts then begins.
-#[derive(Drop)]
+#[derive(Clone, Copy)]
 pub struct Consideration {
     pub effect: Effect,
     pub base: usize,
@@ -81,7 +81,7 @@ fn considered(
 
 // What an effect asks of the state. A message that changes nothing, or the delay alone, leaves all else where it is: a frame
 // may have 255 of them, and copies of the state show beside their checks.
-#[derive(Drop)]
+#[derive(Clone, Copy)]
 pub enum Asked {
     Nothing,
     Delay(u32),

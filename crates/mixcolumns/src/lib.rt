@@ -1,5 +1,7 @@
 // SubBytes and MixColumns (FIPS 197, 5.1.1 and 5.1.3) of one octet, by tables in read-only data: the last octet of a number, in each
 // of the four rows of a column.
+#![tactic(auto)]
+
 ghost use Rattle.std.specs.Prelude.{◌≡◌, ◌%◌};
 ghost use Rattle.mixcolumns.specs.Columns.{mix_of, turned};
 

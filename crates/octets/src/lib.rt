@@ -1,4 +1,6 @@
 // Numbers as octets, the most significant first.
+#![tactic(auto)]
+
 ghost use Rattle.std.specs.Prelude.{◌≡◌, [], ◌∷◌};
 ghost use Rattle.octets.specs.Octets.{value, octets};
 

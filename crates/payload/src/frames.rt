@@ -8,7 +8,7 @@ use xgem::XgemHeader;
 
 pub const XGEM_HEADER_BYTES: usize = 8;
 
-#[derive(Drop)]
+#[derive(Clone, Copy)]
 pub enum Next {
     Done,
     Lost,

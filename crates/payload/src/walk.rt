@@ -13,7 +13,7 @@ use ports::{Ports, SLOT_BYTES, SLOTS};
 // The memory of all slots.
 pub const MEMORY_BYTES: usize = SLOTS * SLOT_BYTES;
 
-#[derive(Drop)]
+#[derive(Clone, Copy)]
 pub enum Delineation {
     Kept,
     // answer 6
@@ -22,7 +22,7 @@ pub enum Delineation {
     Unfit,
 }
 
-#[derive(Drop)]
+#[derive(Clone, Copy)]
 pub struct Received {
     pub ports: Ports,
     pub bytes: usize,

@@ -1,5 +1,7 @@
 // The messages of the PLOAM channel (G.987.3, clause 11): 48 octets, read. Whether one is genuine is the matter of the
 // crate `integrity`, and those that a station sends of `ploamu`.
+#![tactic(auto)]
+
 pub mod reading;
 
 ghost use Rattle.std.specs.Prelude.{◌≡◌};
@@ -36,14 +38,14 @@ pub const REGISTRATION: u8 = 0x02;
 pub const ACKNOWLEDGEMENT: u8 = 0x09;
 
 // Vendor-ID and vendor-specific serial number.
-#[derive(Drop)]
+#[derive(Clone, Copy)]
 pub struct SerialNumber {
     pub vendor: u32,
     pub vssn: u32,
 }
 
 // How Ranging_Time gives its delay.
-#[derive(Drop)]
+#[derive(Clone, Copy)]
 pub enum Adjustment {
     Absolute,
     Add,
@@ -51,7 +53,7 @@ pub enum Adjustment {
 }
 
 // What Disable_Serial_Number asks, and of whom.
-#[derive(Drop)]
+#[derive(Clone, Copy)]
 pub enum Switch {
     DisableOwn,
     EnableOwn,
@@ -61,7 +63,7 @@ pub enum Switch {
 }
 
 // What Assign_Alloc-ID does with its Alloc-ID.
-#[derive(Drop)]
+#[derive(Clone, Copy)]
 pub enum AllocChange {
     Assign,
     Deallocate,
@@ -69,7 +71,7 @@ pub enum AllocChange {
 }
 
 // What a downstream message says: Table 11-2. A type that the table does not have is Unknown.
-#[derive(Drop)]
+#[derive(Clone, Copy)]
 pub enum Content {
     Profile,
     AssignOnuId(OnuId, SerialNumber),
@@ -83,7 +85,7 @@ pub enum Content {
     Unknown(u8),
 }
 
-#[derive(Drop)]
+#[derive(Clone, Copy)]
 pub struct Message {
     pub address: OnuId,
     pub seq: u8,
@@ -91,7 +93,7 @@ pub struct Message {
 }
 
 // The completion codes of Acknowledgement (11.3.4.4) that document 01 sends.
-#[derive(Drop)]
+#[derive(Clone, Copy)]
 pub enum Completion {
     Ok,
     NoMessage,
@@ -115,7 +117,7 @@ impl Completion {
 }
 
 // A slice under 48 octets is short.
-#[derive(Drop)]
+#[derive(Clone, Copy)]
 pub enum Received {
     Whole(Message),
     Short,

@@ -8,7 +8,7 @@ use ploam::{Completion, SerialNumber};
 
 // What a station says: Serial_Number_ONU with its random delay; Registration and Acknowledgement with the sender's
 // ONU-ID and the SeqNo of the request, or 0. The Registration ID, an array, goes beside it.
-#[derive(Drop)]
+#[derive(Clone, Copy)]
 pub enum UpstreamMessage {
     SerialNumberOnu(SerialNumber, u32),
     Registration(OnuId, u8),
@@ -16,7 +16,7 @@ pub enum UpstreamMessage {
 }
 
 // What was read of an upstream message; a type or a completion code that is none of these is Other.
-#[derive(Drop)]
+#[derive(Clone, Copy)]
 pub enum Heard {
     Said(UpstreamMessage),
     Other,

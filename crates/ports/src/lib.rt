@@ -1,4 +1,6 @@
 // The ports and their slots of port memory: slot 0 is the management port's, slots 1 to 16 are those of added ports.
+#![tactic(auto)]
+
 ghost use Rattle.std.specs.Prelude.{◌≡◌, List, Bool, ◌<◌, ◌≤◌, length, take};
 ghost use Rattle.ids.specs.declared.PortId.{PortId};
 ghost use Rattle.ids.specs.Ids.{same_port};
@@ -20,7 +22,7 @@ pub const SLOT_BYTES: usize = SDU_BYTES;
 
 // `ids[i]` has slot i + 1, and is 0 where that slot is empty. An unfinished SDU has `lengths[i]` bytes in slot i; where
 // the slot's port waits, what comes is discarded up to and with the next last fragment.
-#[derive(Drop)]
+#[derive(Clone, Copy)]
 pub struct Ports {
     pub ids: [PortId; ADDED_PORTS],
     pub lengths: [u16; SLOTS],

@@ -9,7 +9,7 @@ use ploamu::UpstreamMessage;
 use station::{Activation, Station};
 
 // O1, O6 and O7 send nothing.
-#[derive(Drop)]
+#[derive(Clone, Copy)]
 pub enum Reply {
     Silent,
     Says(UpstreamMessage),

@@ -22,7 +22,7 @@ const WORDS_A_BURST: usize = UPSTREAM_WORDS;
 const PLOAMU_WORDS: usize = 12;
 
 // What is around a series: the word where the last planned burst ends, and how many the frame has planned before it.
-#[derive(Drop)]
+#[derive(Clone, Copy)]
 pub struct Around {
     pub end: usize,
     pub bursts: usize,
@@ -30,7 +30,7 @@ pub struct Around {
 
 // A series as far as it is read: its entries, none where no series is open; the word where its burst starts, and the
 // words of that burst.
-#[derive(Drop)]
+#[derive(Clone, Copy)]
 pub struct Open {
     pub entries: usize,
     pub start: usize,

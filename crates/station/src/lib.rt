@@ -1,5 +1,7 @@
 // The station's state of clause 12, by value: where it stands in the activation, what the head end has given it, its
 // ports, and the words that its last burst carries into the next frame.
+#![tactic(auto)]
+
 ghost use Rattle.std.specs.Prelude.{◌≡◌};
 ghost use Rattle.station.specs.States.{holds_identity_lem, is_operating_lem, is_ranging_lem, silent, state_number};
 ghost use Rattle.station.specs.Station.{with_activation_lem, with_link_lem, with_ports_lem, with_carried_lem};
@@ -25,7 +27,7 @@ pub const O6: u8 = 6;
 pub const O7: u8 = 7;
 
 // Only O4 and O6 count, and only they carry a count: what is left of TO1 and of TO2.
-#[derive(Drop)]
+#[derive(Clone, Copy)]
 pub enum Activation {
     Initial,
     SerialNumber,
@@ -106,7 +108,7 @@ impl Activation {
     }
 }
 
-#[derive(Drop)]
+#[derive(Clone, Copy)]
 pub struct Station {
     pub activation: Activation,
     pub serial: [u8; 8],
@@ -193,7 +195,7 @@ impl Station {
 }
 
 // What a call answers and the station that it leaves.
-#[derive(Drop)]
+#[derive(Clone, Copy)]
 pub struct Outcome {
     pub answer: Answer,
     pub station: Station,

@@ -32,7 +32,7 @@ pub(crate) fn next_ahead(left: &[u8]) -> Next
 }
 
 // What matters of the next frame once no more deliveries are wanted: how many bytes its payload takes.
-#[derive(Drop)]
+#[derive(Clone, Copy)]
 pub enum Ahead {
     Done,
     Lost,

@@ -10,13 +10,13 @@ use ids::PortId;
 use ports::Ports;
 
 // So many bytes from a place of the frame.
-#[derive(Drop)]
+#[derive(Clone, Copy)]
 pub struct Extent {
     pub at: usize,
     pub bytes: usize,
 }
 
-#[derive(Drop)]
+#[derive(Clone, Copy)]
 pub struct StretchPlace {
     pub stretch: Extent,
     // answer 6, wherever delineation is lost, also behind the delivery
@@ -24,7 +24,7 @@ pub struct StretchPlace {
 }
 
 // How many stretches were listed.
-#[derive(Drop)]
+#[derive(Clone, Copy)]
 pub struct Placed {
     pub count: usize,
     pub lost: bool,

@@ -13,13 +13,13 @@ use ids::PortId;
 use payload::{Next, XGEM_HEADER_BYTES};
 use ports::{ADDED_PORTS, Ports, SLOTS};
 
-#[derive(Drop)]
+#[derive(Clone, Copy)]
 pub enum Brought {
     Nothing,
     Stretch(Extent),
 }
 
-#[derive(Drop)]
+#[derive(Clone, Copy)]
 pub enum Delivery {
     Done,
     Lost,
@@ -28,7 +28,7 @@ pub enum Delivery {
 }
 
 // So many deliveries are to be passed over, and so many stretches are listed.
-#[derive(Drop)]
+#[derive(Clone, Copy)]
 pub struct Search {
     pub ahead: usize,
     pub count: usize,

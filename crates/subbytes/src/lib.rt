@@ -1,5 +1,7 @@
 // SubBytes (FIPS 197, 5.1.1) by a table in read-only data. Two functions have the same entries: the compiler merges a table into
 // the one place that asks it and calls one that is asked at two, and round keys and states are two places.
+#![tactic(auto)]
+
 ghost use Rattle.std.specs.Prelude.{◌≡◌, ◌%◌, ◌<◌};
 ghost use Rattle.subbytes.specs.Field.{s_box};
 

@@ -1,5 +1,7 @@
 // The syndrome of a word of 64 bits by its octets, eight looks into two tables: each entry has what one value adds as any of
 // four octets, so that two tables are enough for all eight.
+#![tactic(auto)]
+
 ghost use Rattle.std.specs.Prelude.{◌≡◌, ◌+◌, ◌*◌, ◌%◌, ◌^◌, ◌<◌};
 ghost use Rattle.std.specs.Int.Bits.{bit_xor};
 ghost use Rattle.bch.specs.Tables.{syndrome};

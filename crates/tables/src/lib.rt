@@ -1,5 +1,7 @@
 // Tables in a program's read-only data. An array that is named is copied to the stack at each use; a `match` with an arm for
 // each entry is one load. Its arms are counted from the table's length on, and an entry of 64 bits holds four numbers of sixteen.
+#![tactic(auto)]
+
 ghost use Rattle.std.specs.Prelude.{◌≡◌, ◌%◌};
 ghost use Rattle.tables.specs.Tables.{past, lane};
 

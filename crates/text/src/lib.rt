@@ -1,5 +1,7 @@
 // Numbers and words as text, in ASCII, put into a lent buffer from a place on. What the buffer has no room for is cut off, so
 // that whoever puts a line together asks for its room once, and not for each part.
+#![tactic(auto)]
+
 ghost use Rattle.std.specs.Prelude.{◌≡◌, ◌∷◌, [], ◌+◌, ◌<◌};
 ghost use Rattle.text.specs.Texts.{added};
 ghost use Rattle.text.specs.Decimals.{zero_digit, last_two, decimal, field};

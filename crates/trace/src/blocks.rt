@@ -10,7 +10,7 @@ use super::records;
 use super::records::{Printed, Run};
 
 // Where the run then stands, how many bytes of input are kept, and how many of the text are to be written.
-#[derive(Drop)]
+#[derive(Clone, Copy)]
 pub struct Handled {
     pub run: Run,
     pub kept: usize,

@@ -19,7 +19,7 @@ const TEXT: usize = 8192;
 const DELIVERIES: usize = records::FRAME + payload::MEMORY_BYTES;
 
 // What a read has brought: the input is filled up to a place, or has ended, or cannot be read.
-#[derive(Drop)]
+#[derive(Clone, Copy)]
 enum Got {
     Filled(usize),
     Ended,

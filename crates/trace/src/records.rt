@@ -17,7 +17,7 @@ const HEAD: usize = 4;
 
 pub(crate) const FRAME: usize = RECORD - HEAD;
 
-#[derive(Drop)]
+#[derive(Clone, Copy)]
 pub enum Kind {
     Lost,
     Frame,
@@ -25,7 +25,7 @@ pub enum Kind {
 }
 
 // Where a run stands: its station, the number of the next record, and whether a bad one has stopped it.
-#[derive(Drop)]
+#[derive(Clone, Copy)]
 pub struct Run {
     pub station: Station,
     pub number: u64,
@@ -33,7 +33,7 @@ pub struct Run {
 }
 
 // A run after a record, and the place behind its line.
-#[derive(Drop)]
+#[derive(Clone, Copy)]
 pub struct Printed {
     pub run: Run,
     pub place: usize,

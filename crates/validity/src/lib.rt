@@ -1,4 +1,6 @@
 // The paper's "State ranges": what answer 1 refuses.
+#![tactic(auto)]
+
 ghost use Rattle.std.specs.Prelude.{◌≡◌, Bool, false, not, cond};
 ghost use Rattle.ids.specs.Ids.{within};
 ghost use Rattle.ports.specs.Limits.{added_ports, slots};

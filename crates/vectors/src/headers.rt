@@ -61,7 +61,7 @@ const TABLE_A3: [u32; 24] = [
 ];
 
 // What a word reads as, that it is unreadable, or that its two readings differ.
-#[derive(Drop)]
+#[derive(Clone, Copy)]
 enum Outcome {
     Reads(u64),
     Unreadable,
@@ -193,7 +193,7 @@ fn table_a1() {
 
 // The counts of a table: words that read as themselves, words written from their data bits, and flips of one, two and
 // three bits.
-#[derive(Drop)]
+#[derive(Clone, Copy)]
 struct Counts {
     read: u64,
     written: u64,

@@ -18,7 +18,7 @@ const MOST_LINE: usize = 128;
 const TEXT: usize = engine::MOST_STRUCTURES * MOST_LINE;
 
 // What a read has brought: the input is filled up to a place, or has ended, or cannot be read.
-#[derive(Drop)]
+#[derive(Clone, Copy)]
 enum Got {
     Filled(usize),
     Ended,

@@ -13,7 +13,7 @@ use ids::PortId;
 // What the padding of a payload holds.
 const PADDING: u8 = 0x55;
 
-#[derive(Drop)]
+#[derive(Clone, Copy)]
 pub struct XgemHeader {
     // The payload length indication, in bytes.
     pub pli: u16,
@@ -25,7 +25,7 @@ pub struct XgemHeader {
     pub last: bool,
 }
 
-#[derive(Drop)]
+#[derive(Clone, Copy)]
 pub enum XgemRead {
     Fields(XgemHeader),
     Unreadable,

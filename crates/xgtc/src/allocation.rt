@@ -11,7 +11,7 @@ use hec::{Reading64, Word64};
 use ids::AllocId;
 use xgem::words;
 
-#[derive(Drop)]
+#[derive(Clone, Copy)]
 pub struct Allocation {
     pub alloc: AllocId,
     pub dbru: bool,
@@ -24,7 +24,7 @@ pub struct Allocation {
     pub profile: u8,
 }
 
-#[derive(Drop)]
+#[derive(Clone, Copy)]
 pub enum AllocationRead {
     Fields(Allocation),
     Unreadable,

@@ -11,7 +11,7 @@ use super::words;
 use answers::Answer;
 use hec::{Reading32, Word32};
 
-#[derive(Drop)]
+#[derive(Clone, Copy)]
 pub struct Hlend {
     // The BWmap length: how many allocation structures.
     pub bwmap: u16,
@@ -19,7 +19,7 @@ pub struct Hlend {
     pub ploam: u8,
 }
 
-#[derive(Drop)]
+#[derive(Clone, Copy)]
 pub enum HlendRead {
     Fields(Hlend),
     Unreadable,

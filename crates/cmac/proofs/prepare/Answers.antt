@@ -1,0 +1,18 @@
+-- `cmac::prepare` meets its contract.
+use mathlib.Core.Path.{◌∙◌, ap, subst}
+use Rattle.aes.specs.Words.{Octets}
+use Rattle.aes.proofs.Octets.{octets-octets}
+use Rattle.cmac.specs.Tags.{prepared_by}
+use Rattle.cmac.proofs.Blocks.{prepared_of}
+use Rattle.cmac.proofs.prepare.Goals as goal
+
+pub returns : goal.returns
+returns c =
+    let load = c.load-k in
+    record {
+      made =
+          prepared_of load.result c.encipher_one.result c.doubled-whole.result c.doubled.result
+          c.encipher_one.ensures c.doubled-whole.ensures c.doubled.ensures
+          ∙ ap prepared_by load.ensures.made;
+      octets = subst Octets load.ensures.back (octets-octets load.result);
+    }
