@@ -1,5 +1,7 @@
 // What a downstream message can do to the station. The decision is apart from what it does: an effect is told by the message and
 // the state, in crate `decisions`, and applied once the message has been found genuine.
+#![tactic(auto)]
+
 ghost use Rattle.std.specs.Prelude.{◌≡◌};
 ghost use Rattle.effects.specs.Effects.{ignored, does, owes, answers, is_ignored_lem};
 ghost use Rattle.effects.specs.Changes.{Applies};

@@ -1,5 +1,5 @@
 // One XGEM frame at work: on the ports, the port memory and the deliveries.
-ghost use Rattle.std.specs.Prelude.{◌≡◌, ◌++◌, ℕ, ◌+◌, ◌≤◌, ◌<◌, ◌^◌, length, take};
+ghost use Rattle.std.specs.Prelude.{◌≡◌, ◌++◌, ℕ, ◌+◌, ◌≤◌, ◌<◌, ◌^◌, length, take, drop};
 ghost use Rattle.ports.specs.Limits.{slots, sdu_bytes, slot_bytes};
 ghost use Rattle.ports.specs.Ports.{ports_of};
 ghost use Rattle.payload.specs.Memory.{receiver_of, put, delivery, partial, extended, taken};
@@ -10,12 +10,21 @@ use fragments::Reassembly;
 use ids::PortId;
 use ports::{ADDED_PORTS, SLOT_BYTES, SLOTS};
 
+// All of a slice to the front of another.
+fn copy(s: &[u8], target: &mut [u8])
+    requires { length s.now ≤ length target.old }
+    ensures { target.new ≡ s.now ++ drop (length s.now) target.old }
+{
+    let n = s.len();
+    target[..n].copy_from_slice(s);
+}
+
 // All of a slice into a place of another: its end from there is lent on.
 fn lay_at(target: &mut [u8], at: usize, s: &[u8])
     requires { at + length s.now ≤ length target.old }
     ensures { target.new ≡ put target.old at s.now }
 {
-    bytes::copy(s, &mut target[at..]);
+    copy(s, &mut target[at..]);
 }
 
 fn eight(s: &[u8]) -> [u8; 8]
@@ -68,7 +77,7 @@ fn extend(memory: &mut [u8], slot: usize, have: usize, body: &[u8])
 {
     let from = slot * SLOT_BYTES + have;
     let to = slot * SLOT_BYTES + SLOT_BYTES;
-    bytes::copy(body, &mut memory[from..to]);
+    copy(body, &mut memory[from..to]);
 }
 
 // A delivery at a place: Port-ID, length, the bytes of the partial and those of the last fragment.

@@ -1,5 +1,7 @@
 // What a station says on the PLOAM channel (G.987.3, clause 11.3.4): laid out, signed, written, and read again as the
 // other end of the fibre does.
+#![tactic(auto)]
+
 pub mod reading;
 pub mod writing;
 

@@ -1,5 +1,7 @@
 // What a frame time does to the station by itself: the step at a frame's end, a frame time that is lost, and one whose
 // header could not be used.
+#![tactic(auto)]
+
 ghost use Rattle.std.specs.Prelude.{◌≡◌};
 ghost use Rattle.timing.specs.Timing.{count_to1_lem, count_to2_lem, silence, frame_end_lem, lost_state_lem, lost_time_lem, unread_state_lem, unread_time_lem};
 

@@ -113,13 +113,21 @@ fn pad(target: &mut [u8], count: usize)
     }
 }
 
+fn copy(s: &[u8], target: &mut [u8])
+    requires { length s.now ≤ length target.old }
+    ensures { target.new ≡ put target.old s.now }
+{
+    let n = s.len();
+    target[..n].copy_from_slice(s);
+}
+
 // The payload of an SDU: the SDU and its padding up to the size.
 fn put_payload(sdu: &[u8], size: usize, target: &mut [u8])
     requires { (length sdu.now ≤ size) × (size ≤ length target.old) }
     ensures { target.new ≡ put target.old (sdu.now ++ replicate (size - length sdu.now) 0x55) }
 {
     let length = sdu.len();
-    bytes::copy(sdu, target);
+    copy(sdu, target);
     pad(&mut target[length..], size - length);
 }
 

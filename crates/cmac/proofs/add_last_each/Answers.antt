@@ -24,16 +24,16 @@ pub loop-j-init : goal.loop-j-init
 loop-j-init c = (omega arith, refl)
 
 pub overflow_mul-at : goal.overflow_mul-at
-overflow_mul-at c = record { fits = omega (arith, inside (goal.at.overflow_mul-at c).In-loop-j, c.well-formed.1.0.0) }
+overflow_mul-at c = record { fits = omega (arith, inside (goal.at.overflow_mul-at c).In-loop-j, c.well_formed.1.0.0) }
 
 pub overflow_add-end : goal.overflow_add-end
-overflow_add-end c = record { fits = omega (arith, inside (goal.at.overflow_add-end c).In-loop-j, c.well-formed.1.0.0) }
+overflow_add-end c = record { fits = omega (arith, inside (goal.at.overflow_add-end c).In-loop-j, c.well_formed.1.0.0) }
 
 pub add_last-requires : goal.add_last-requires
 add_last-requires c =
     let a = c.args in
     let pre = c.requires in
-    omega (arith, pre.2, c.ranges.size, inside (goal.at.add_last-requires c).In-loop-j, c.well-formed.1.0.1)
+    omega (arith, pre.2, c.ranges.size, inside (goal.at.add_last-requires c).In-loop-j, c.well_formed.1.0.1)
 
 pub loop-j-preserved : goal.loop-j-preserved
 loop-j-preserved c =

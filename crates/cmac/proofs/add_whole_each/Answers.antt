@@ -25,13 +25,13 @@ pub loop-j-init : goal.loop-j-init
 loop-j-init c = (omega arith, refl)
 
 pub overflow_mul-at : goal.overflow_mul-at
-overflow_mul-at c = record { fits = omega (arith, inside (goal.at.overflow_mul-at c).In-loop-j, c.well-formed.0.0) }
+overflow_mul-at c = record { fits = omega (arith, inside (goal.at.overflow_mul-at c).In-loop-j, c.well_formed.0.0) }
 
 pub overflow_add-end : goal.overflow_add-end
-overflow_add-end c = record { fits = omega (arith, inside (goal.at.overflow_add-end c).In-loop-j, c.well-formed.0.0) }
+overflow_add-end c = record { fits = omega (arith, inside (goal.at.overflow_add-end c).In-loop-j, c.well_formed.0.0) }
 
 pub overflow_mul-i : goal.overflow_mul-i
-overflow_mul-i c = record { fits = omega (arith, inside (goal.at.overflow_mul-i c).In-loop-j, c.requires.2, c.well-formed.0.0) }
+overflow_mul-i c = record { fits = omega (arith, inside (goal.at.overflow_mul-i c).In-loop-j, c.requires.2, c.well_formed.0.0) }
 
 pub add_whole-requires : goal.add_whole-requires
 add_whole-requires c =

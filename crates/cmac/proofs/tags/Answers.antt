@@ -42,7 +42,7 @@ pub overflow_add-i : goal.overflow_add-i
 overflow_add-i c =
     let a = c.args in
     let n = c.at_most-n.result in
-    record { fits = omega (arith, c.blocks_before-before.ensures, div-le_self (length a.ms.now) n, c.well-formed.1.0.0) }
+    record { fits = omega (arith, c.blocks_before-before.ensures, div-le_self (length a.ms.now) n, c.well_formed.1.0.0) }
 
 pub loop-i-preserved : goal.loop-i-preserved
 loop-i-preserved c =
@@ -61,7 +61,7 @@ loop-i-preserved c =
 pub overflow_mul-before : goal.overflow_mul-before
 overflow_mul-before c =
     let a = c.args in
-    record { fits = omega (arith, c.blocks_before-before.ensures, div-le_self (length a.ms.now) c.at_most-n.result, c.well-formed.1.0.0) }
+    record { fits = omega (arith, c.blocks_before-before.ensures, div-le_self (length a.ms.now) c.at_most-n.result, c.well_formed.1.0.0) }
 
 pub add_last_each-requires : goal.add_last_each-requires
 add_last_each-requires c = (c.at_most-n.ensures.1, c.loop-i.invariant.2, omega (arith, c.blocks_before-before.ensures), long (goal.at.add_last_each-requires c).At-loop-i)

@@ -13,10 +13,10 @@ count : (c : Start) → length c.args.ids ≡ added_ports
 count c = search rules
 
 pub behind-requires : goal.behind-requires
-behind-requires c = rw c.IsPlace-in.ensures (added-below c.args.ids c.args.port (count (goal.at.behind-requires c).Start))
+behind-requires c = rw c.place_in.ensures (added-below c.args.ids c.args.port (count (goal.at.behind-requires c).Start))
 
 pub returns-then-is_assignable : goal.returns-then-is_assignable
-returns-then-is_assignable c = (rw (sym c.is_assignable.ensures ∙ c.if-is_assignable.true) (c.behind.ensures.0 ∙ ap behind c.IsPlace-in.ensures), c.behind.ensures.1)
+returns-then-is_assignable c = (rw (sym c.is_assignable.ensures ∙ c.if-is_assignable.true) (c.behind.ensures.0 ∙ ap behind c.place_in.ensures), c.behind.ensures.1)
 
 pub returns-else-is_assignable : goal.returns-else-is_assignable
 returns-else-is_assignable c = (rw (sym c.is_assignable.ensures ∙ c.if-is_assignable.false) c.management.ensures.0, c.management.ensures.1)

@@ -6,28 +6,28 @@ use Rattle.validity.proofs.in_range.Goals as goal
 
 pub returns-then-not-identity_fits : goal.returns-then-not-identity_fits
 unfolding in_range
-returns-then-not-identity_fits c = rw (sym c.identity_fits.ensures ∙ not-true _ c.if-not-identity_fits.true)
+returns-then-not-identity_fits c = rw (sym c.identity_fits.ensures ∙ c.if-not-identity_fits.true)
 
 pub returns-then-not-allocs_fit : goal.returns-then-not-allocs_fit
 unfolding in_range
-returns-then-not-allocs_fit c = rw (sym c.identity_fits.ensures ∙ not-false _ c.if-not-identity_fits.false, sym c.allocs_fit.ensures ∙ not-true _ c.if-not-allocs_fit.true)
+returns-then-not-allocs_fit c = rw (sym c.identity_fits.ensures ∙ c.if-not-identity_fits.false, sym c.allocs_fit.ensures ∙ c.if-not-allocs_fit.true)
 
 pub returns-then-not-ports_fit : goal.returns-then-not-ports_fit
 unfolding in_range
-returns-then-not-ports_fit c = rw (sym c.identity_fits.ensures ∙ not-false _ c.if-not-identity_fits.false, sym c.allocs_fit.ensures ∙ not-false _ c.if-not-allocs_fit.false, sym c.ports_fit.ensures ∙ not-true _ c.if-not-ports_fit.true)
+returns-then-not-ports_fit c = rw (sym c.identity_fits.ensures ∙ c.if-not-identity_fits.false, sym c.allocs_fit.ensures ∙ c.if-not-allocs_fit.false, sym c.ports_fit.ensures ∙ c.if-not-ports_fit.true)
 
 pub returns-then-not-partials_fit : goal.returns-then-not-partials_fit
 unfolding in_range
-returns-then-not-partials_fit c = rw (sym c.identity_fits.ensures ∙ not-false _ c.if-not-identity_fits.false, sym c.allocs_fit.ensures ∙ not-false _ c.if-not-allocs_fit.false, sym c.ports_fit.ensures ∙ not-false _ c.if-not-ports_fit.false, sym c.partials_fit.ensures ∙ not-true _ c.if-not-partials_fit.true)
+returns-then-not-partials_fit c = rw (sym c.identity_fits.ensures ∙ c.if-not-identity_fits.false, sym c.allocs_fit.ensures ∙ c.if-not-allocs_fit.false, sym c.ports_fit.ensures ∙ c.if-not-ports_fit.false, sym c.partials_fit.ensures ∙ c.if-not-partials_fit.true)
 
 pub returns-then-s-gt-LAST_WORD : goal.returns-then-s-gt-LAST_WORD
 unfolding in_range
-returns-then-s-gt-LAST_WORD c = rw (sym c.identity_fits.ensures ∙ not-false _ c.if-not-identity_fits.false, sym c.allocs_fit.ensures ∙ not-false _ c.if-not-allocs_fit.false, sym c.ports_fit.ensures ∙ not-false _ c.if-not-ports_fit.false, sym c.partials_fit.ensures ∙ not-false _ c.if-not-partials_fit.false, lt-leb _ _ c.if-s-gt-LAST_WORD.true)
+returns-then-s-gt-LAST_WORD c = rw (sym c.identity_fits.ensures ∙ c.if-not-identity_fits.false, sym c.allocs_fit.ensures ∙ c.if-not-allocs_fit.false, sym c.ports_fit.ensures ∙ c.if-not-ports_fit.false, sym c.partials_fit.ensures ∙ c.if-not-partials_fit.false, lt-leb _ _ c.if-s-gt-LAST_WORD.true)
 
 pub returns-then-not-timer_fits : goal.returns-then-not-timer_fits
 unfolding in_range
-returns-then-not-timer_fits c = rw (sym c.identity_fits.ensures ∙ not-false _ c.if-not-identity_fits.false, sym c.allocs_fit.ensures ∙ not-false _ c.if-not-allocs_fit.false, sym c.ports_fit.ensures ∙ not-false _ c.if-not-ports_fit.false, sym c.partials_fit.ensures ∙ not-false _ c.if-not-partials_fit.false, le-leb _ _ c.if-s-gt-LAST_WORD.false, sym c.timer_fits.ensures ∙ not-true _ c.if-not-timer_fits.true)
+returns-then-not-timer_fits c = rw (sym c.identity_fits.ensures ∙ c.if-not-identity_fits.false, sym c.allocs_fit.ensures ∙ c.if-not-allocs_fit.false, sym c.ports_fit.ensures ∙ c.if-not-ports_fit.false, sym c.partials_fit.ensures ∙ c.if-not-partials_fit.false, le-leb _ _ c.if-s-gt-LAST_WORD.false, sym c.timer_fits.ensures ∙ c.if-not-timer_fits.true)
 
 pub returns : goal.returns
 unfolding in_range
-returns c = rw (sym c.identity_fits.ensures ∙ not-false _ c.if-not-identity_fits.false, sym c.allocs_fit.ensures ∙ not-false _ c.if-not-allocs_fit.false, sym c.ports_fit.ensures ∙ not-false _ c.if-not-ports_fit.false, sym c.partials_fit.ensures ∙ not-false _ c.if-not-partials_fit.false, le-leb _ _ c.if-s-gt-LAST_WORD.false, sym c.timer_fits.ensures ∙ not-false _ c.if-not-timer_fits.false)
+returns c = rw (sym c.identity_fits.ensures ∙ c.if-not-identity_fits.false, sym c.allocs_fit.ensures ∙ c.if-not-allocs_fit.false, sym c.ports_fit.ensures ∙ c.if-not-ports_fit.false, sym c.partials_fit.ensures ∙ c.if-not-partials_fit.false, le-leb _ _ c.if-s-gt-LAST_WORD.false, sym c.timer_fits.ensures ∙ c.if-not-timer_fits.false)

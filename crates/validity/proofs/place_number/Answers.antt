@@ -5,12 +5,12 @@ use Rattle.validity.proofs.place_number.Goals as goal
 
 pub returns-then-not-used : goal.returns-then-not-used
 unfolding place_number_lem
-returns-then-not-used c = rw (not-true c.args.used c.if-not-used.true)
+returns-then-not-used c = rw (c.if-not-used.true)
 
 pub returns-then-not-assignable : goal.returns-then-not-assignable
 unfolding place_number_lem
-returns-then-not-assignable c = rw (not-false c.args.used c.if-not-used.false, not-true c.args.assignable c.if-not-assignable.true)
+returns-then-not-assignable c = rw (c.if-not-used.false, c.if-not-assignable.true)
 
 pub returns : goal.returns
 unfolding place_number_lem
-returns c = rw (not-false c.args.used c.if-not-used.false, not-false c.args.assignable c.if-not-assignable.false)
+returns c = rw (c.if-not-used.false, c.if-not-assignable.false)

@@ -42,7 +42,7 @@ returns-2 c = rw (sym (c.before.before.before.before.«open».ensures ∙ openin
 
 returns-3 : tie.Need-returns-3
 unfolding stretch_place_lem
-returns-3 c = rw (sym (c.before.before.before.before.«open».ensures ∙ opening_is c.before.before.before.before.before.before.before.args.s c.before.before.before.before.before.before.before.args.frame.now c.before.before.before.before.before.in-range.result true c.before.before.before.before.before.in-range.ensures), c.before.before.h.given.1) c.IsPlace-in.ensures
+returns-3 c = rw (sym (c.before.before.before.before.«open».ensures ∙ opening_is c.before.before.before.before.before.before.before.args.s c.before.before.before.before.before.before.before.args.frame.now c.before.before.before.before.before.in-range.result true c.before.before.before.before.before.in-range.ensures), c.before.before.h.given.1) c.place-in.ensures
 
 pub stretch-place-spec : {M : Type 1} → statement M
 stretch-place-spec =

@@ -21,7 +21,7 @@ abbrev decreases-loop : tie.decreases-loop
 decreases-loop own frame begins first places₀ ids lengths₀ waiting₀ room search₀ at₀ places lengths waiting search at = length frame - at
 
 ids : (c : tie.Start invariant-loop decreases-loop) → length c.args.ports.ids ≡ added_ports
-ids c = simp length-map at c.well-formed.0.1.1.0.1.0.1
+ids c = simp length-map at c.well_formed.0.1.1.0.1.0.1
 
 -- the ports as they are by now
 abbrev so_far : (c : tie.At-loop invariant-loop decreases-loop) → Ports
