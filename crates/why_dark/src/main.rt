@@ -64,7 +64,7 @@ fn read_on(rt: &impl Eprint, stdin: &mut impl Read, input: &mut [u8], filled: us
     }
 }
 
-// A program of Rattle has no exit status: what is wrong with an input is told where a script looks, among the lines.
+// The exit status is 0 whatever an input is: what is wrong with one is told where a script looks, among the lines.
 fn print(rt: &(impl Print + Eprint), input: &[u8], filled: usize, text: &mut [u8])
     requires { (filled ≤ length input.now) × (most_text ≤ length text.old) }
 {
