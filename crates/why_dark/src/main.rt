@@ -10,7 +10,6 @@ ghost use Rattle.std.specs.Prelude.{◌≤◌, length};
 ghost use Rattle.why_dark.specs.Reads.{Within};
 ghost use Rattle.why_dark.specs.Report.{most_text};
 
-
 use std::io;
 use std::io::{ErrorKind, Read, Write};
 
