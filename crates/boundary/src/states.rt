@@ -24,7 +24,7 @@ fn serial_of(c: &[u8]) -> [u8; SERIAL_OCTETS]
     ensures { result ≡ take serial_octets_lem c.now }
 {
     let mut l = [0u8; SERIAL_OCTETS];
-    bytes::copy(&c[0..SERIAL_OCTETS], &mut l);
+    l.copy_from_slice(&c[0..SERIAL_OCTETS]);
     l
 }
 
@@ -33,7 +33,7 @@ fn key_of(c: &[u8]) -> [u8; KEY_OCTETS]
     ensures { result ≡ take key_octets c.now }
 {
     let mut l = [0u8; KEY_OCTETS];
-    bytes::copy(&c[0..KEY_OCTETS], &mut l);
+    l.copy_from_slice(&c[0..KEY_OCTETS]);
     l
 }
 
@@ -42,7 +42,7 @@ fn registration_of(c: &[u8]) -> [u8; REGISTRATION_OCTETS]
     ensures { result ≡ take registration_octets_lem c.now }
 {
     let mut l = [0u8; REGISTRATION_OCTETS];
-    bytes::copy(&c[0..REGISTRATION_OCTETS], &mut l);
+    l.copy_from_slice(&c[0..REGISTRATION_OCTETS]);
     l
 }
 

@@ -55,5 +55,6 @@ pub(crate) fn put_octets(octets: &[u8], out: &mut [u8])
     requires { length octets.now ≤ length out.old }
     ensures { out.new ≡ put out.old octets.now }
 {
-    bytes::copy(octets, out);
+    let n = octets.len();
+    out[..n].copy_from_slice(octets);
 }
