@@ -17,7 +17,7 @@ ahead c = c.bytes_ahead-ahead.ensures ∙ ap bytes_of (ap next_of (rest_part c.a
 
 -- a frame, whose payload takes so many bytes
 framed : (c : In-Bytes) → bytes_of (next_of (drop c.loop-bytes.at c.args.frame.now)) ≡ Bytes c.in-Bytes.bytes
-framed c = sym (ahead c.before.before.before) ∙ c.in-Bytes.is
+framed c = sym (c.bytes_ahead-ahead.ensures ∙ ap bytes_of (ap next_of (rest_part c.args.frame.now c.loop-bytes.at))) ∙ c.in-Bytes.is
 
 fits : (c : In-Bytes) → c.loop-bytes.at + 8 + c.in-Bytes.bytes ≤ length c.args.frame.now
 fits c =

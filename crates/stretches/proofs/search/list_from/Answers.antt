@@ -12,7 +12,7 @@ use Rattle.stretches.proofs.search.list_from.Goals.{At-loop-search, Start}
 use Rattle.stretches.proofs.search.list_from.Goals as goal
 
 ids : (c : Start) → length c.args.ports.ids ≡ added_ports
-ids c = simp length-map at c.well_formed.0.1.1.0.1.0.1
+ids c = c.well_formed.0.1.1.0.1.0.1
 
 -- the ports as they are by now
 abbrev so_far : (c : At-loop-search) → Ports

@@ -30,7 +30,7 @@ next c = c.next_ahead-next.ensures.0 ∙ ap next_of (rest_part c.args.frame.now 
 
 -- the frame that was found, and its numbers
 framed : (c : In-Frame) → next_of (drop c.loop-x.at c.args.frame.now) ≡ Frame c.in-Frame.x
-framed c = sym (next c.before.before.before) ∙ c.in-Frame.is
+framed c = sym (c.next_ahead-next.ensures.0 ∙ ap next_of (rest_part c.args.frame.now c.loop-x.at)) ∙ c.in-Frame.is
 
 numbers : (c : In-Frame) → Numbers c.args.frame.now c.loop-x.at c.in-Frame.x.pli
 numbers c =
