@@ -1,5 +1,7 @@
 // The walk over the bandwidth map (clause 8.1.2): the series of ours, which of them are planned, and the plan that the
 // laser obeys; and the name of every structure, what became of it.
+#![tactic(auto)]
+
 mod names;
 mod records;
 mod search;

@@ -1,5 +1,7 @@
 // What a downstream message does to the station if it is genuine: the bullets of the paper's "Messages", one function
 // each.
+#![tactic(auto)]
+
 ghost use Rattle.std.specs.Prelude.{◌≡◌, Bool};
 ghost use Rattle.decisions.specs.Decisions.{same_serial_lem, assign_onu_id_lem, alloc_change_lem, assign_alloc_id_lem};
 ghost use Rattle.decisions.specs.Decisions.{request_registration_lem, deactivate, switch_off_lem, switch_on_lem, switched, disable};

@@ -1,5 +1,7 @@
 // A downstream frame is opened: its length is tested, its XGTC header is read, and its partitions are known (clause 8.1). What
 // refuses a frame is tested here and nowhere else, for every call that is lent one.
+#![tactic(auto)]
+
 ghost use Rattle.std.specs.Prelude.{◌≡◌};
 ghost use Rattle.xgtc.specs.Reads.{found_hlend};
 ghost use Rattle.downstream.specs.Opening.{by_hlend_lem, tested, opening_by};

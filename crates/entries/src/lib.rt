@@ -1,4 +1,6 @@
 // The entries of the bandwidth map (clause 8.1.2), each by itself: read, usable or not, and whose it is.
+#![tactic(auto)]
+
 pub mod naming;
 pub mod reading;
 

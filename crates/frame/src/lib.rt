@@ -1,4 +1,6 @@
 // The frame call: a downstream frame has arrived in its frame time.
+#![tactic(auto)]
+
 ghost use Rattle.std.specs.Prelude.{◌≡◌, true, ◌+◌, ◌≤◌, length};
 ghost use Rattle.validity.specs.Ranges.{in_range};
 ghost use Rattle.plan.specs.Limits.{plan_numbers};

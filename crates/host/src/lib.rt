@@ -1,4 +1,6 @@
 // The host's calls: a port added, a port removed, the key given. A refusal leaves the station as it was.
+#![tactic(auto)]
+
 ghost use Rattle.std.specs.Prelude.{◌≡◌};
 ghost use Rattle.host.specs.Host.{done, outcome, answer_to_add_lem, answer_to_remove_lem, answer_to_key_lem};
 ghost use Rattle.host.specs.Host.{AddLeaves, RemoveLeaves, KeyLeaves, after_add, after_remove, after_key};

@@ -1,4 +1,6 @@
 // A station's state as octets at fixed offsets in a buffer that the caller lends: each state has exactly one byte form.
+#![tactic(auto)]
+
 mod known;
 mod numbers;
 mod offsets;

@@ -1,4 +1,6 @@
 // The messages of a frame act one after another, each on the state left by the last.
+#![tactic(auto)]
+
 ghost use Rattle.std.specs.Prelude.{Bool, ◌≡◌, ◌-◌, ◌/◌, ◌≤◌, length};
 ghost use Rattle.cmac.specs.Tags.{Ready};
 ghost use Rattle.link.specs.Limits.{key_octets};

@@ -12,7 +12,7 @@ use Rattle.fragments.specs.declared.Reassembly.TheVariants.{Ignored, Dropped, De
 use Rattle.fragments.specs.Fragments.{reassembly_of_lem}
 use Rattle.fragments.specs.Within.{Within}
 use Rattle.payload.specs.Frames.{Xgem}
-use Rattle.payload.specs.Memory.{Receiver, done, taken, step}
+use Rattle.payload.specs.Memory.{extended, Receiver, done, taken, step}
 use Rattle.payload.specs.Walk.{steps}
 use Rattle.payload.specs.Appends.{Append, append_of, appends_of, laid, InSlots}
 use Rattle.payload.proofs.Steps.{within-taken, ids_taken}
@@ -27,7 +27,7 @@ laid_done s (Appended slot have) port body = refl
 
 laid_join : (memory : List ℕ) (l k : List Append) → laid memory (l ++ k) ≡ laid (laid memory l) k
 laid_join memory [] k = refl
-laid_join memory (a ∷ l) k = laid_join _ l k
+laid_join memory (a ∷ l) k = laid_join (extended memory a.slot a.have a.body) l k
 
 pub memory-laid : (own : PortId) (s : Receiver) (frames : List Xgem) → (steps own s frames).memory ≡ laid s.memory (appends_of own s frames)
 unfolding steps appends_of taken

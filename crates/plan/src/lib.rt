@@ -1,4 +1,6 @@
 // A record of the plan, for one entry that is planned: what is written of it, and the flags that the laser reads.
+#![tactic(auto)]
+
 ghost use Rattle.std.specs.Prelude.{◌≤◌, ◌≡◌};
 ghost use Rattle.plan.specs.Records.{mark, burst_flags_lem, head_flags_lem, more_flags_lem, placed};
 

@@ -32,6 +32,8 @@ module _ (own : Own) (m : List ℕ) where
 
   -- what stands behind the next head is of no run before it
   pub run-stops : (d n i k : ℕ) → d < n → OursAt own m (i + d) false → run k (standings_from own m i d) ≡ run k (standings_from own m i n)
+  run-stops zero zero i k h x = absurd (omega arith)
+  run-stops (suc d) zero i k h x = absurd (omega arith)
   run-stops zero (suc n) i k h x =
       let e : i + 0 ≡ i = omega arith in
       let y : OursAt own m i false = rw e at x in

@@ -109,6 +109,7 @@ module _ (own : Own) (m : List ℕ) (carried : ℕ) where
   true_from (suc n) i lies around k v ahead w = turn i n (omega arith) (true_from n (suc i) (omega arith)) around k v ahead w (standing own (entry_at m i)) refl
 
   true_at : (l : List Verdict) (i : ℕ) → TrueFrom i l → (j : ℕ) → j < length l → TrueName own m carried (i + j) (get_or l j Silent)
+  true_at [] i t j h = absurd (omega arith)
   true_at (v ∷ l) i t zero h =
       let e : i + 0 ≡ i = omega arith in
       rw e t.0

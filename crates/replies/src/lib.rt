@@ -1,5 +1,7 @@
 // The messages of a frame's planned PLOAMu bursts, written into a lent buffer: reply k stands in its 48 octets from
 // octet 48 k on.
+#![tactic(auto)]
+
 ghost use Rattle.std.specs.Prelude.{Bool, ◌≡◌, min, ◌*◌, ◌≤◌, ◌<◌, ◌^◌, length};
 ghost use Rattle.ploam.specs.Layout.{message_octets};
 ghost use Rattle.replies.specs.Replies.{Keyed, wrote, RepliesLeft, replies_from, Replied};

@@ -1,5 +1,7 @@
 // A burst allocation series (clause 8.1.2), as far as the entries of the map that make it are read: where its burst
 // starts, how many words that takes, whether it has room for one more entry, and whether it is planned.
+#![tactic(auto)]
+
 ghost use Rattle.std.specs.Prelude.{◌≤◌, ◌<◌, ◌≡◌};
 ghost use Rattle.series.specs.Series.{words_of, judged};
 ghost use Rattle.series.specs.Opens.{closed, opened, goes_on_lem, fits, Modest};

@@ -1,5 +1,7 @@
 // Unfragmented SDUs as stretches of a downstream frame (clauses 9.1 to 9.3). The search decides as the walk does, and touches no
 // memory.
+#![tactic(auto)]
+
 ghost use Rattle.std.specs.Prelude.{◌≡◌};
 ghost use Rattle.stretches.specs.Stretch.{stretch_of, list_of, cut_out};
 

@@ -21,7 +21,7 @@ read c x e =
 -- the fields of a word that was read
 fielded : (c : After-of-x) → fields c.of-x.result ≡ read_xgem_lem c.args.left.now
 fielded c =
-    read c.before.before.before.before (fields c.of-x.result)
+    found-ahead c.args.left.now c.word_ahead.result (found64 c.read64_by_octets-read.result) (fields c.of-x.result) c.if-left-lt-XGEM_HEADER_BYTES.false c.word_ahead.ensures (search rules) c.read64_by_octets-read.ensures
     (ap fields c.of-x.ensures ∙ ap (λ (r : Reading64). taken xgem_of (found64 r)) (sym c.in-Word.is))
 
 pub returns-then-left-lt-XGEM_HEADER_BYTES : goal.returns-then-left-lt-XGEM_HEADER_BYTES

@@ -9,7 +9,7 @@ use Rattle.payload.proofs.walk.receive.Goals.{Start}
 use Rattle.payload.proofs.walk.receive.Goals as goal
 
 ids : (c : Start) → length c.args.ports.ids ≡ added_ports
-ids c = simp length-map at c.well_formed.0.1.1.0.1.0.1
+ids c = search rules
 
 count : (c : Start) → length c.args.ports.lengths ≡ slots
 count c = search rules

@@ -32,7 +32,7 @@ next c =
 
 -- the frame that was found, and its numbers
 framed : (c : In-Frame) → next_of (drop c.loop-lengths.at c.args.payload.now) ≡ Frame c.in-Frame.x
-framed c = sym (next c.before.before.before) ∙ c.in-Frame.is
+framed c = sym (c.next_frame-next.ensures.0 ∙ ap next_of (rest_part c.args.payload.now c.loop-lengths.at)) ∙ c.in-Frame.is
 
 numbers : (c : In-Frame) → Numbers c.args.payload.now c.loop-lengths.at c.in-Frame.x.pli
 numbers c =
@@ -90,7 +90,10 @@ take_frame-bytes-requires c =
     let n = numbers (goal.at.take_frame-bytes-requires c).In-Frame in
     let pli = c.in-Frame.x.pli in
     let size : length (take (at + 8 + pli - (at + 8)) (drop (at + 8) pay)) ≡ pli = omega (arith, length-take (at + 8 + pli - (at + 8)) (drop (at + 8) pay), length-drop (at + 8) pay) in
-    (ready_less (so_far (goal.at.take_frame-bytes-requires c).At-loop-lengths) (length pay - at) _ c.loop-lengths.invariant.0.ready (omega arith), omega arith)
+    record {
+      ready = ready_less (so_far (goal.at.take_frame-bytes-requires c).At-loop-lengths) (length pay - at) _ c.loop-lengths.invariant.0.ready (omega arith);
+      body_len_bound = omega arith;
+    }
 
 pub overflow_add-at : goal.overflow_add-at
 overflow_add-at c = omega (arith, numbers (goal.at.overflow_add-at c).In-Frame, c.payload_size-size.ensures)
@@ -100,9 +103,8 @@ loop-lengths-smaller c = omega (arith, numbers (goal.at.loop-lengths-smaller c).
 
 pub loop-lengths-preserved : goal.loop-lengths-preserved
 unfolding start so_far
-loop-lengths-preserved c =
-    (
-      rw c.payload_size-size.ensures
-          (at_turn c.args.own c.args.place c.args.payload.now (start (goal.at.loop-lengths-preserved c).Start) (so_far (goal.at.loop-lengths-preserved c).At-loop-lengths) c.loop-lengths.at c.loop-lengths.invariant.0 c.in-Frame.x (framed (goal.at.loop-lengths-preserved c).In-Frame) _ c.take_frame-bytes.ensures),
-      c.loop-lengths.invariant.1,
-    )
+loop-lengths-preserved c = (
+  rw c.payload_size-size.ensures
+      (at_turn c.args.own c.args.place c.args.payload.now (start (goal.at.loop-lengths-preserved c).Start) (so_far (goal.at.loop-lengths-preserved c).At-loop-lengths) c.loop-lengths.at c.loop-lengths.invariant.0 c.in-Frame.x (framed (goal.at.loop-lengths-preserved c).In-Frame) _ c.take_frame-bytes.ensures),
+  c.loop-lengths.invariant.1,
+)

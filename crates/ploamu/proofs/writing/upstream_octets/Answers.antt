@@ -26,6 +26,6 @@ returns-in-Registration c = rw c.in-Registration.is c.registration_octets.ensure
 pub returns-in-Acknowledgement : goal.returns-in-Acknowledgement
 unfolding upstream_octets_lem
 returns-in-Acknowledgement c =
-        rw c.in-Acknowledgement.is
+    rw c.in-Acknowledgement.is
     (c.acknowledgement_octets.ensures
     ∙ ap (λ (k : ℕ). octets 2 c.in-Acknowledgement.onu.0 ++ acknowledgement ∷ c.in-Acknowledgement.seq ∷ k ∷ replicate 35 0) c.code.ensures)

@@ -1,0 +1,7 @@
+-- `messages::checking::window` meets its contract.
+use native.Mathlib.Omega.{arith}
+use Rattle.messages.proofs.Verdicts.{none_known}
+use Rattle.messages.proofs.checking.window.Goals as goal
+
+pub returns : goal.returns
+returns c = (omega arith, λ verdict k. none_known verdict _)
