@@ -35,11 +35,11 @@ loop-i-preserved c =
       omega (arith, c.loop-i-test.true),
       omega (arith, c.print_record-p.ensures.1, l.invariant.1),
       block-turn c.args.input.now c.args.count l.i (showing l.p l.memory l.plan l.replies l.deliveries l.text) _ c.loop-i-test.true (omega (arith, l.invariant.1, l.invariant.7, c.requires.1, c.loop-i-test.true)) c.print_record-p.ensures.0 ∙ l.invariant.2,
-      k.1.1.0 ∙ l.invariant.3,
-      k.1.1.1.0 ∙ l.invariant.4,
-      k.1.1.1.1.0 ∙ l.invariant.5,
-      k.1.1.1.1.1.0 ∙ l.invariant.6,
-      k.1.1.1.1.1.1.0 ∙ l.invariant.7,
+      k.memory ∙ l.invariant.3,
+      k.plan ∙ l.invariant.4,
+      k.replies ∙ l.invariant.5,
+      k.deliveries ∙ l.invariant.6,
+      k.text ∙ l.invariant.7,
     )
 
 pub shape_of-memory : goal.shape_of-memory

@@ -16,6 +16,9 @@ returns-then-run c =
     let a = c.args in
     (stopped_step (at-start (goal.at.returns-then-run c).Start) a.octets.now a.text.now a.place c.if-run.true, omega arith)
 
+pub slice_bounds-frame-start : goal.slice_bounds-frame-start
+slice_bounds-frame-start c = omega (arith, frame_whole c.args.octets.now c.kind_of.result c.kind_of.ensures c.in-Frame.is)
+
 pub slice_bounds-frame-count : goal.slice_bounds-frame-count
 slice_bounds-frame-count c = omega (arith, frame_whole c.args.octets.now c.kind_of.result c.kind_of.ensures c.in-Frame.is)
 
