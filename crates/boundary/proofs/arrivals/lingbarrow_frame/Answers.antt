@@ -7,7 +7,7 @@ use Rattle.boundary.proofs.arrivals.lingbarrow_frame.Goals.{Start}
 use Rattle.boundary.proofs.arrivals.lingbarrow_frame.Goals as goal
 
 abbrev arrived : Start → Arrival
-arrived c = arriving c.args.frame.now c.args.random-delay
+arrived c = arriving c.args.frame.now c.args.random_delay
 
 abbrev buffers : Start → Lent
 buffers c = lending c.args.memory.now c.args.plan.now c.args.replies.now c.args.deliveries.now
