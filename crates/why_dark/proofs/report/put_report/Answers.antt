@@ -7,6 +7,9 @@ use Rattle.why_dark.proofs.report.put_report.Goals as goal
 pub returns-then-input-gt-MOST_INPUT : goal.returns-then-input-gt-MOST_INPUT
 returns-then-input-gt-MOST_INPUT c = c.put_word.ensures ∙ ap (added _ _) (long-told c.args.input.now c.if-input-gt-MOST_INPUT.true)
 
+pub slice_bounds-put_frame-start : goal.slice_bounds-put_frame-start
+slice_bounds-put_frame-start c = held-long c.args.input.now c.read_state-read.result c.read_state-read.ensures c.in-Held.is
+
 pub slice_bounds-put_frame-count : goal.slice_bounds-put_frame-count
 slice_bounds-put_frame-count c = held-long c.args.input.now c.read_state-read.result c.read_state-read.ensures c.in-Held.is
 
