@@ -22,19 +22,9 @@ x86_64_or_leave() {
     fi
 }
 
-# library NAME: target/staticlib/libNAME.a, compiled again only if what was proved has changed since. One at a time: tests run
-# beside each other, and rt keeps its notes on a crate in one place.
+# library NAME: target/staticlib/libNAME.a, compiled again only if a crate's file has changed since.
 library() {
-    local archive=target/staticlib/lib$1.a
-    mkdir -p target
-    (
-        flock 9
-        rt check "$1" > /dev/null
-        if ! cmp -s "target/stamp/$1" "$archive.stamp"; then
-            rt staticlib "$1" > /dev/null
-            cp "target/stamp/$1" "$archive.stamp"
-        fi
-    ) 9> target/library.lock
+    tools/build "$1"
 }
 
 # Of the customer's requests the independent engine is built with the first so many: those that have landed here.

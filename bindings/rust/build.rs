@@ -1,8 +1,12 @@
-//! Says where the static library is: in LINGBARROW_LIB_DIR; else where `rt staticlib boundary` leaves it in this project, which is done
+//! Says where the static library is: in LINGBARROW_LIB_DIR; else where `tools/build boundary` leaves it in this project, which is done
 //! here if it was not done yet.
 use std::path::{Path, PathBuf};
 use std::process::Command;
-use std::{env, io};
+use std::{env, fs, io};
+
+/// Where `rt lib` leaves it.
+const CRATE: &str = "crates/boundary_c";
+const BUILT: &str = "out/libboundary_c.a";
 
 const ARCHIVE: &str = "libboundary.a";
 
@@ -44,17 +48,25 @@ fn library() -> Result<PathBuf, String> {
         return Ok(folder);
     }
     let instead = format!("; or set LINGBARROW_LIB_DIR to a folder that has {ARCHIVE}");
-    if !root.join("crates/boundary").is_dir() {
+    let project = root.join(CRATE);
+    if !project.is_dir() {
         return Err(format!("there is no {}, and no project to build it from{instead}", folder.join(ARCHIVE).display()));
     }
-    match Command::new("rt").args(["staticlib", "boundary"]).current_dir(&root).status() {
+    match Command::new("rt").arg("lib").current_dir(&project).status() {
         Err(e) if e.kind() == io::ErrorKind::NotFound => {
             Err(format!("there is no {}, and no command `rt` on PATH to build it{instead}", folder.join(ARCHIVE).display()))
         }
-        Err(e) => Err(format!("`rt staticlib boundary` did not start: {e}{instead}")),
-        Ok(status) if !status.success() => Err(format!("`rt staticlib boundary` failed in {}: {status}{instead}", root.display())),
-        Ok(_) => found(&folder).ok_or_else(|| format!("`rt staticlib boundary` left no {}{instead}", folder.join(ARCHIVE).display())),
+        Err(e) => Err(format!("`rt lib` did not start: {e}{instead}")),
+        Ok(status) if !status.success() => Err(format!("`rt lib` failed in {}: {status}{instead}", project.display())),
+        Ok(_) => placed(&project.join(BUILT), &folder).ok_or_else(|| format!("`rt lib` left no {BUILT} in {}{instead}", project.display())),
     }
+}
+
+/// A copy of what was built, under the archive's name.
+fn placed(built: &Path, folder: &Path) -> Option<PathBuf> {
+    fs::create_dir_all(folder).ok()?;
+    fs::copy(built, folder.join(ARCHIVE)).ok()?;
+    found(folder)
 }
 
 fn found(folder: &Path) -> Option<PathBuf> {

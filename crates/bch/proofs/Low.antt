@@ -1,14 +1,14 @@
 -- A number of twelve bits is its own remainder.
 -- Assumes nothing.
-use mathlib.Core.Path.{◌≡◌, refl, sym, ap, ap₂, ◌∙◌, subst}
-use Prim.Native.Nat.{ℕ, zero, suc, ◌+◌, ◌-◌, ◌*◌, ◌/◌, ◌%◌, ◌^◌, ◌≤◌, ◌<◌}
+use mathlib.Core.Path.{◌≡◌, refl, sym, ap, ◌∙◌, subst}
+use Prim.Native.Nat.{ℕ, zero, suc, ◌+◌, ◌*◌, ◌/◌, ◌%◌, ◌^◌, ◌≤◌, ◌<◌}
 use native.Mathlib.Nat.{pow-suc, zero-mul, add-mul, mul_assoc, mul_comm, not-suc-le-zero}
 use native.Mathlib.Omega.{arith}
 use borrow.Author.Tests.{lt-ltb}
 use lib.Arith.{lt-one, digits_lt}
 use lib.Pow.{pow_pos, pow-lt}
-use lib.Bits.{bit_xor, xor_shifted, xor_comm}
-use Rattle.bch.specs.Code.{double, place, remainder_from, remainder}
+use lib.Bits.{xor_shifted, xor_comm}
+use Rattle.bch.specs.Code.{place, remainder_from, remainder}
 use Rattle.bch.proofs.Xor.{bit}
 use Rattle.bch.proofs.Ones.{half_lt}
 use Rattle.bch.proofs.Linear.{rem_zero}

@@ -1,20 +1,18 @@
 -- A word of 63 bits has the remainder 0 where, and only where, it is a codeword: a multiple of the generator.
 -- Assumes nothing.
 use mathlib.Core.Path.{◌≡◌, refl, sym, ap, ap₂, ◌∙◌, subst}
-use mathlib.Core.Bool.{Bool, true, false}
-use Prim.Native.Nat.{ℕ, zero, suc, ◌+◌, ◌-◌, ◌*◌, ◌/◌, ◌%◌, ◌^◌, ◌≤◌, ◌<◌}
-use native.Mathlib.Nat.{zero-mul, one-mul, pow-suc, le_of_suc-le-suc}
+use Prim.Native.Nat.{ℕ, zero, suc, ◌+◌, ◌-◌, ◌*◌, ◌/◌, ◌%◌, ◌^◌, ◌<◌}
+use native.Mathlib.Nat.{zero-mul, one-mul}
 use native.Mathlib.Decide.{dec_lt}
 use native.Mathlib.Omega.{arith}
 use borrow.Author.Tests.{lt-ltb, le-ltb}
-use lib.Arith.{lt-one, bin_ind, digits_div, digits_mod}
-use lib.Dec.{ltb, lit<}
-use lib.Pow.{pow_pos, pow_mono}
-use lib.Bits.{bit_xor, differ, xor_zero_r, xor_lt, xor_self, xor_comm, xor_step, xor_block, xor_mod, xor_shr, xor_shifted}
-use Rattle.bch.specs.Code.{generator, times, Codeword, double, place, remainder_from, remainder}
-use Rattle.bch.proofs.Xor.{bit, xor_half, xor_odd, xor_assoc, xor_four, xor_cancel, bit-times}
+use lib.Arith.{lt-one}
+use lib.Dec.{lit<}
+use lib.Bits.{bit_xor, differ, xor_zero_r, xor_lt, xor_comm, xor_step, xor_block, xor_mod, xor_shr, xor_shifted}
+use Rattle.bch.specs.Code.{generator, times, Codeword, double, remainder_from, remainder}
+use Rattle.bch.proofs.Xor.{bit, xor_assoc, xor_four, xor_cancel, bit-times}
 use Rattle.bch.proofs.Linear.{rem_zero, rem_xor}
-use Rattle.bch.proofs.Range.{double_lt, bit_times_lt, rem_lt, remainder_lt}
+use Rattle.bch.proofs.Range.{double_lt, bit_times_lt, rem_lt}
 use Rattle.bch.proofs.Ones.{half_lt}
 use Rattle.bch.proofs.Low.{low_remainder}
 

@@ -1,13 +1,13 @@
 -- How many ones a word has, and a sum of two.
 -- Assumes nothing.
-use mathlib.Core.Path.{◌≡◌, refl, sym, ap, ap₂, ◌∙◌, subst}
-use Prim.Native.Nat.{ℕ, zero, suc, ◌+◌, ◌-◌, ◌*◌, ◌/◌, ◌%◌, ◌^◌, ◌≤◌, ◌<◌, min}
+use mathlib.Core.Path.{◌≡◌, refl, sym, ap, ◌∙◌, subst}
+use Prim.Native.Nat.{ℕ, zero, suc, ◌+◌, ◌*◌, ◌/◌, ◌%◌, ◌^◌, ◌≤◌, ◌<◌, min}
 use native.Mathlib.Numerals.{add-one}
 use native.Mathlib.Omega.{arith}
-use lib.Arith.{bin_ind, lt-one, digits_div, digits_mod}
+use lib.Arith.{bin_ind, lt-one}
 use lib.Pow.{shr_lt}
-use lib.Bits.{bit_xor, bit_and, differ, xor_step, and_step}
-use lib.Count.{ones, ones_in, ones_step, ones-ones, ones_cat}
+use lib.Bits.{bit_xor, bit_and, differ, and_step}
+use lib.Count.{ones, ones_in, ones_step, ones-ones}
 use Rattle.bch.proofs.Xor.{bit, xor_half, xor_odd}
 
 pub half_lt : {f : ℕ} (k : ℕ) → f < 2 ^ suc k → f / 2 < 2 ^ k

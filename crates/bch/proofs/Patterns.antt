@@ -1,11 +1,11 @@
 -- A single one has the check value of its place.
 -- Assumes nothing.
 use mathlib.Core.Path.{◌≡◌, sym, ap, ◌∙◌}
-use Prim.Native.Nat.{ℕ, zero, suc, ◌+◌, ◌*◌, ◌/◌, ◌%◌, ◌^◌, ◌<◌}
+use Prim.Native.Nat.{ℕ, zero, suc, ◌+◌, ◌*◌, ◌^◌, ◌<◌}
 use native.Mathlib.Nat.{one-mul, zero-mul, pow-suc, add-zero, add-suc, suc-add, zero-add, le_of_suc-le-suc, not-suc-le-zero, mul-div_cancel, mul-mod_left}
 use native.Mathlib.Omega.{arith}
 use lib.Dec.{lit<}
-use lib.Bits.{bit_xor, xor_zero_r}
+use lib.Bits.{xor_zero_r}
 use Rattle.bch.specs.Code.{remainder_from, double, place, remainder}
 use Rattle.bch.proofs.Linear.{rem_zero}
 

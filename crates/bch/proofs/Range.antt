@@ -6,8 +6,8 @@ use native.Mathlib.Nat.{zero-mul, one-mul}
 use native.Mathlib.Decide.{dec_lt}
 use native.Mathlib.Omega.{arith}
 use borrow.Author.Tests.{lt-ltb, le-ltb}
-use lib.Dec.{ltb, lit<}
-use lib.Bits.{bit_xor, xor_lt, xor_block}
+use lib.Dec.{lit<}
+use lib.Bits.{xor_lt, xor_block}
 use Rattle.bch.specs.Code.{double, place, remainder_from, remainder}
 use Rattle.bch.proofs.Xor.{bit}
 

@@ -3,14 +3,14 @@
 use mathlib.Core.Path.{◌≡◌, refl, sym, ap, ap₂, ◌∙◌, subst}
 use mathlib.Core.Bool.{true, ◌&&◌}
 use lib.Dec.{eqb}
-use Prim.Native.Nat.{ℕ, zero, suc, ◌+◌, ◌-◌, ◌*◌, ◌/◌, ◌%◌, ◌^◌, ◌≤◌, ◌<◌}
+use Prim.Native.Nat.{ℕ, zero, suc, ◌+◌, ◌*◌, ◌/◌, ◌%◌, ◌^◌, ◌≤◌, ◌<◌}
 use native.Mathlib.Nat.{lt_of_lt_of_le}
 use native.Mathlib.Omega.{arith}
 use borrow.Author.Tests.{eq-eqb, eqb-true}
 use lib.Pow.{pow_mono}
-use lib.Bits.{bit_xor, xor_block, xor_lt, xor_zero_r}
+use lib.Bits.{bit_xor, xor_block}
 use lib.Count.{ones, ones-ones}
-use Rattle.bch.specs.Code.{TrueWord, Codeword, times, remainder, is_true}
+use Rattle.bch.specs.Code.{TrueWord, remainder, is_true}
 use Rattle.bch.specs.Tables.{syndrome}
 use Rattle.bch.proofs.Both.{and_left, and_right}
 use Rattle.bch.proofs.Xor.{bit, xor_half}

@@ -1,11 +1,10 @@
 -- A count over messages, one after the other; and that the true table and keys count what is genuine.
 -- Assumes nothing.
-use mathlib.Core.Path.{◌≡◌, refl, ap, ap₂, ◌∙◌}
-use mathlib.Core.Bool.{Bool}
+use mathlib.Core.Path.{◌≡◌, refl, ap, ap₂}
 use mathlib.Core.List.{List}
 use Prim.Native.Nat.{ℕ, zero, suc, ◌+◌, ◌-◌, ◌*◌, ◌≤◌, ◌<◌}
 use native.Mathlib.Omega.{arith}
-use lib.ListN.{length, take, drop}
+use lib.ListN.{length, drop}
 use lib.Seq.{get_or-drop}
 use Rattle.aes.specs.Words.{Octets, words_of}
 use Rattle.cmac.specs.declared.Prepared.{Prepared}

@@ -1,4 +1,6 @@
 // What bench/ calls from Rust: loops over the library's functions, long enough to be timed.
+#![tactic(auto)]
+
 mod map_walk;
 mod message_checks;
 mod payload_walk;

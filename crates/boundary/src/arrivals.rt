@@ -67,8 +67,7 @@ pub(crate) fn opened(state: &[u8], frame: &[u8], have: usize, need: usize) -> u8
 }
 
 // A frame has arrived. The counts are those of records in the plan, of replies, and of bytes in the deliveries.
-#[unsafe(no_mangle)]
-pub extern "C" fn lingbarrow_frame(
+pub fn lingbarrow_frame(
     state: &mut [u8],
     memory: &mut [u8],
     frame: &[u8],
@@ -107,13 +106,7 @@ pub extern "C" fn lingbarrow_frame(
 }
 
 // Where delivery k of the frame stands in the frame, and its length: both 0 where it has no stretch of its own.
-#[unsafe(no_mangle)]
-pub extern "C" fn lingbarrow_stretch(
-    state: &[u8],
-    frame: &[u8],
-    k: usize,
-    place: &mut [usize],
-) -> u8
+pub fn lingbarrow_stretch(state: &[u8], frame: &[u8], k: usize, place: &mut [usize]) -> u8
     ensures { PlaceIs result place.new (place_on state.now frame.now k place.old) }
 {
     if place.len() < PLACE {

@@ -1,6 +1,8 @@
 // The engine for C and Rust: each call over plain slices and numbers, the state as octets of a buffer that the caller lends. The
 // answers come in the order of their numbers. A state's buffer that is too short is answered 3 before all else, since there is no
 // state to test; the boundary's other buffers (counts, place, key) are answered 3 where 1, and for a frame 2, is not the answer.
+#![tactic(auto)]
+
 mod arrivals;
 mod counting;
 mod naming;

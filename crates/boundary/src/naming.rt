@@ -10,13 +10,7 @@ const STATE_OUT_OF_RANGE: u8 = answers::STATE_OUT_OF_RANGE;
 const BUFFER_TOO_SHORT: u8 = answers::BUFFER_TOO_SHORT;
 
 // The name of every structure of the frame's map, by its number. The count is how many structures there are.
-#[unsafe(no_mangle)]
-pub extern "C" fn lingbarrow_why_dark(
-    state: &[u8],
-    frame: &[u8],
-    names: &mut [u8],
-    counts: &mut [usize],
-) -> u8
+pub fn lingbarrow_why_dark(state: &[u8], frame: &[u8], names: &mut [u8], counts: &mut [usize]) -> u8
     ensures { ListIs result names.new counts.new (why_dark_on state.now frame.now names.old counts.old) }
 {
     if counts.len() < counting::COUNTS {

@@ -76,8 +76,7 @@ fn asked(room: bool, s: Station) -> u8
 }
 
 // A station that is powered on, in O1 with nothing held.
-#[unsafe(no_mangle)]
-pub extern "C" fn lingbarrow_power_on(state: &mut [u8], serial: &[u8], registration: &[u8]) -> u8
+pub fn lingbarrow_power_on(state: &mut [u8], serial: &[u8], registration: &[u8]) -> u8
     ensures { StateIs result state.new (power_on_in state.old serial.now registration.now) }
 {
     if state.len() < layout::STATE_BYTES {
@@ -95,8 +94,7 @@ pub extern "C" fn lingbarrow_power_on(state: &mut [u8], serial: &[u8], registrat
 }
 
 // Whether octets are those of a state in range.
-#[unsafe(no_mangle)]
-pub extern "C" fn lingbarrow_in_range(state: &[u8]) -> u8
+pub fn lingbarrow_in_range(state: &[u8]) -> u8
     ensures { result ≡ in_range_on state.now }
 {
     let read = layout::read_state(state);
@@ -110,8 +108,7 @@ pub extern "C" fn lingbarrow_in_range(state: &[u8]) -> u8
 }
 
 // A frame time in which no frame arrived.
-#[unsafe(no_mangle)]
-pub extern "C" fn lingbarrow_lost(state: &mut [u8]) -> u8
+pub fn lingbarrow_lost(state: &mut [u8]) -> u8
     ensures { StateIs result state.new (lost_on state.old) }
 {
     let read = layout::read_state(state);
@@ -124,8 +121,7 @@ pub extern "C" fn lingbarrow_lost(state: &mut [u8]) -> u8
     }
 }
 
-#[unsafe(no_mangle)]
-pub extern "C" fn lingbarrow_add_port(state: &mut [u8], port: u16) -> u8
+pub fn lingbarrow_add_port(state: &mut [u8], port: u16) -> u8
     ensures { StateIs result state.new (add_on state.old port) }
 {
     let read = layout::read_state(state);
@@ -139,8 +135,7 @@ pub extern "C" fn lingbarrow_add_port(state: &mut [u8], port: u16) -> u8
     }
 }
 
-#[unsafe(no_mangle)]
-pub extern "C" fn lingbarrow_remove_port(state: &mut [u8], port: u16) -> u8
+pub fn lingbarrow_remove_port(state: &mut [u8], port: u16) -> u8
     ensures { StateIs result state.new (remove_on state.old port) }
 {
     let read = layout::read_state(state);
@@ -154,8 +149,7 @@ pub extern "C" fn lingbarrow_remove_port(state: &mut [u8], port: u16) -> u8
     }
 }
 
-#[unsafe(no_mangle)]
-pub extern "C" fn lingbarrow_give_key(state: &mut [u8], key: &[u8]) -> u8
+pub fn lingbarrow_give_key(state: &mut [u8], key: &[u8]) -> u8
     ensures { StateIs result state.new (key_on state.old key.now) }
 {
     let read = layout::read_state(state);

@@ -11,8 +11,7 @@ const BUFFER_TOO_SHORT: u8 = answers::BUFFER_TOO_SHORT;
 
 // Where each delivery of the frame stands in the frame, and its length, one after the other: both 0 where it has no stretch of its
 // own. The count is how many deliveries there are.
-#[unsafe(no_mangle)]
-pub extern "C" fn lingbarrow_stretches(
+pub fn lingbarrow_stretches(
     state: &[u8],
     frame: &[u8],
     places: &mut [usize],

@@ -18,8 +18,7 @@ fn written_number(answer: Answer) -> u8
     answer.number()
 }
 
-#[unsafe(no_mangle)]
-pub extern "C" fn lingbarrow_write_hlend(bwmap: u32, ploam: u32, target: &mut [u8]) -> u8
+pub fn lingbarrow_write_hlend(bwmap: u32, ploam: u32, target: &mut [u8]) -> u8
     ensures { ◌≡◌ {A = Target} (record { answer = result; target = target.new }) (hlend_in bwmap ploam target.old) }
 {
     if 0xffff < bwmap {
@@ -35,8 +34,7 @@ pub extern "C" fn lingbarrow_write_hlend(bwmap: u32, ploam: u32, target: &mut [u
     written_number(xgtc::hlend::write_hlend(h, target))
 }
 
-#[unsafe(no_mangle)]
-pub extern "C" fn lingbarrow_write_allocation(
+pub fn lingbarrow_write_allocation(
     alloc: u32,
     dbru: u32,
     ploamu: u32,
@@ -82,8 +80,7 @@ pub extern "C" fn lingbarrow_write_allocation(
     written_number(xgtc::allocation::write_allocation(a, target))
 }
 
-#[unsafe(no_mangle)]
-pub extern "C" fn lingbarrow_write_xgem_frame(
+pub fn lingbarrow_write_xgem_frame(
     key: u32,
     port: u32,
     options: u32,

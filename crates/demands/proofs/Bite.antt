@@ -66,20 +66,20 @@ refuses-all d = true≢false (sym (sound_in_range fresh (power_on_sound serial r
 
 refused_sends : (first : Station) (st : Progress) (calls : List Call) → bursts_from refuses_all first st calls ≡ []
 refused_sends first st [] = refl
-refused_sends first st (frame a b ∷ l) = refused_sends first _ l
-refused_sends first st (lost ∷ l) = refused_sends first _ l
-refused_sends first st (add_port_lem port ∷ l) = refused_sends first _ l
-refused_sends first st (remove_port_lem port ∷ l) = refused_sends first _ l
-refused_sends first st (give_key_lem octets ∷ l) = refused_sends first _ l
+refused_sends first st (frame a b ∷ l) = refused_sends first (after refuses_all first st (frame a b)) l
+refused_sends first st (lost ∷ l) = refused_sends first (after refuses_all first st lost) l
+refused_sends first st (add_port_lem port ∷ l) = refused_sends first (after refuses_all first st (add_port_lem port)) l
+refused_sends first st (remove_port_lem port ∷ l) = refused_sends first (after refuses_all first st (remove_port_lem port)) l
+refused_sends first st (give_key_lem octets ∷ l) = refused_sends first (after refuses_all first st (give_key_lem octets)) l
 refused_sends first st (why_dark_lem f names ∷ l) = refused_sends first st l
 
 refused-kept : (first : Station) (st : Progress) (l : List Call) → Kept first st → Kept first (run refuses_all first st l)
 refused-kept first st [] k = k
-refused-kept first st (frame a b ∷ l) k = refused-kept first _ l (record { same = k.same; sound = k.sound })
-refused-kept first st (lost ∷ l) k = refused-kept first _ l (call_kept first st lost k)
-refused-kept first st (add_port_lem port ∷ l) k = refused-kept first _ l (call_kept first st (add_port_lem port) k)
-refused-kept first st (remove_port_lem port ∷ l) k = refused-kept first _ l (call_kept first st (remove_port_lem port) k)
-refused-kept first st (give_key_lem octets ∷ l) k = refused-kept first _ l (call_kept first st (give_key_lem octets) k)
+refused-kept first st (frame a b ∷ l) k = refused-kept first (after refuses_all first st (frame a b)) l (record { same = k.same; sound = k.sound })
+refused-kept first st (lost ∷ l) k = refused-kept first (after refuses_all first st lost) l (call_kept first st lost k)
+refused-kept first st (add_port_lem port ∷ l) k = refused-kept first (after refuses_all first st (add_port_lem port)) l (call_kept first st (add_port_lem port) k)
+refused-kept first st (remove_port_lem port ∷ l) k = refused-kept first (after refuses_all first st (remove_port_lem port)) l (call_kept first st (remove_port_lem port) k)
+refused-kept first st (give_key_lem octets ∷ l) k = refused-kept first (after refuses_all first st (give_key_lem octets)) l (call_kept first st (give_key_lem octets) k)
 refused-kept first st (why_dark_lem f names ∷ l) k = refused-kept first st l k
 
 module _ (serial registration memory : List ℕ) (calls : List Call) where

@@ -24,7 +24,7 @@ use Rattle.frame.specs.Given.{Arrival, Lent, buffers_fit}
 use Rattle.frame.specs.Frame.{FrameLeft, refused, planned_in, done, handled, frame_left}
 use Rattle.frame.proofs.Laws.{room}
 use Rattle.engine.specs.Answers.{Handled, Row}
-use Rattle.engine.proofs.Counts.{received}
+use Rattle.engine.proofs.TrulyCounted.{received}
 use Rattle.engine.proofs.Table.{table}
 use Rattle.demands.specs.Runs.{is_done_lem}
 use Rattle.demands.specs.Demand3.{sendings}

@@ -83,6 +83,7 @@ record Split (m : List ℕ) (l : List (List ℕ)) : Type 0 where
   pub lies : l ≡ before ++ (m ∷ behind)
 
 split : (m : List ℕ) (l : List (List ℕ)) → Among m l → Split m l
+split m [] a = elim a [ ]
 split m (x ∷ l) here = record { before = []; behind = l; lies = refl }
 split m (x ∷ l) (there a) =
     let s = split m l a in
@@ -167,6 +168,7 @@ unfolding heard
 given-in E first memory calls n i = whole ((given_by first n (run E first (start first memory) calls).history).0 i)
   where
     nothing-heard : (m : List ℕ) (l : List (List ℕ)) → l ≡ [] → Among m l → ⊥
+    nothing-heard m [] e a = elim a [ ]
     nothing-heard m (x ∷ l) e a = absurd (nonempty e)
       where
         is_empty : List (List ℕ) → Bool

@@ -35,7 +35,7 @@ use Rattle.frame.specs.Given.{Arrival, Lent}
 use Rattle.frame.specs.Frame.{FrameLeft, own_of}
 use Rattle.engine.specs.Answers.{Handled, Row}
 use Rattle.engine.specs.Naming.{NamesLeft, named_in}
-use Rattle.engine.proofs.Named.{map_count}
+use Rattle.engine.proofs.AllNamed.{map_count}
 use Rattle.demands.specs.Engine.{Engine, lingbarrow}
 use Rattle.demands.specs.Runs.{is_done_lem}
 use Rattle.demands.specs.Demand1.{NamesRow, Demand1}

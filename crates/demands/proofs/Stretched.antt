@@ -47,7 +47,7 @@ use Rattle.engine.specs.declared.stretching.StretchPlace.{StretchPlace}
 use Rattle.engine.specs.Stretch.{empty, told, place_in, place_by, stretch_place_lem}
 use Rattle.engine.specs.Answers.{lost_in}
 use Rattle.engine.specs.Counts.{receiving, xgem_frames}
-use Rattle.engine.proofs.Counts.{received}
+use Rattle.engine.proofs.TrulyCounted.{received}
 use Rattle.engine.proofs.Table.{done_answer}
 use Rattle.demands.specs.Promises.{length_in, sdus_in, delivered, Stretched}
 use Rattle.demands.proofs.MeetsDemand1.{place_answer}

@@ -1,6 +1,8 @@
 // The receive engine of an XG-PON terminal: one call for each frame time and each wish of the host. Every call answers for
 // every state, every frame and every lent buffer; what is unfit gets a number of the paper's table, and what is left after
 // each number is fixed.
+#![tactic(auto)]
+
 mod lods;
 mod naming;
 mod stretching;

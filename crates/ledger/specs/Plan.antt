@@ -19,8 +19,8 @@ use Rattle.ledger.specs.Ledger.{ledger, InLedger}
 abbrev pub own_of : Station → Own
 own_of s = record { activation = s.activation; onu = s.link.onu; allocs = s.link.allocs }
 
-abbrev pub field_own : Station → List Event → Own
-field_own first h = own_of (station_of first h)
+abbrev pub own_at : Station → List Event → Own
+own_at first h = own_of (station_of first h)
 
 abbrev pub Listed : Station → List Event → Allocation → Type 0
 Listed first h a = InLedger (ledger first h) a.alloc.0
@@ -44,20 +44,20 @@ pub record Ours (entries : List Entry) (own : Own) : Type 0 where
 
 -- in a frame that arrives after the history h
 abbrev pub OursAfter : Station → List Event → Type 0
-OursAfter first h = Ours (ledger first h) (field_own first h)
+OursAfter first h = Ours (ledger first h) (own_at first h)
 
 -- what an entry that stands as ours says of its number
 pub record NumberOf (first : Station) (h : List Event) : Type 0 where
   pub identified
-      : (e : Found Allocation) (a : Allocation) (more : Bool) → Mine (field_own first h) e a more
-      → holds_identity_lem (field_own first h).activation ≡ true → Listed first h a
+      : (e : Found Allocation) (a : Allocation) (more : Bool) → Mine (own_at first h) e a more
+      → holds_identity_lem (own_at first h).activation ≡ true → Listed first h a
   pub unidentified
-      : (e : Found Allocation) (a : Allocation) (more : Bool) → Mine (field_own first h) e a more
-      → holds_identity_lem (field_own first h).activation ≡ false → Discovery a
+      : (e : Found Allocation) (a : Allocation) (more : Bool) → Mine (own_at first h) e a more
+      → holds_identity_lem (own_at first h).activation ≡ false → Discovery a
   -- and every entry on the ledger's numbers that is read and usable stands so
   pub operating
-      : (field_own first h).activation ≡ Operation → (a : Allocation) → start_unfit_lem a ≡ false → no_room_lem a ≡ false → Listed first h a
-      → Mine (field_own first h) (fields a) a (continues a)
+      : (own_at first h).activation ≡ Operation → (a : Allocation) → start_unfit_lem a ≡ false → no_room_lem a ≡ false → Listed first h a
+      → Mine (own_at first h) (fields a) a (continues a)
   pub ranged
-      : (left : ℕ) → (field_own first h).activation ≡ Ranging left → (a : Allocation) → start_unfit_lem a ≡ false → no_room_lem a ≡ false
-      → Listed first h a → (continues a || a.ploamu) ≡ true → Mine (field_own first h) (fields a) a (continues a)
+      : (left : ℕ) → (own_at first h).activation ≡ Ranging left → (a : Allocation) → start_unfit_lem a ≡ false → no_room_lem a ≡ false
+      → Listed first h a → (continues a || a.ploamu) ≡ true → Mine (own_at first h) (fields a) a (continues a)

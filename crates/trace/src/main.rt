@@ -1,4 +1,6 @@
 // The bench run: records of 1,024 bytes from standard input, a line for each to standard output.
+#![tactic(auto)]
+
 mod blocks;
 mod lines;
 mod records;
@@ -7,8 +9,9 @@ ghost use Rattle.std.specs.Prelude.{◌≤◌, length};
 ghost use Rattle.trace.specs.Lines.{most_line};
 ghost use Rattle.trace.specs.Reads.{Within};
 
-use libc::{STDIN_FILENO, STDOUT_FILENO};
 use records::Run;
+use std::io;
+use std::io::{ErrorKind, Read, Write};
 
 // A read brings up to 64 KB.
 const INPUT: usize = 65536;
@@ -26,52 +29,69 @@ enum Got {
     Failed,
 }
 
+// Room for what the system says of a failed call.
+const WORDS: usize = 256;
+
+// Says on standard error which stream failed, and why: in the system's words, without the number that the library puts behind them.
+fn fail(rt: &impl Eprint, stream: &str, error: &io::Error) {
+    let mut room = [0u8; WORDS];
+    let mut rest = &mut room[..];
+    let _ = write!(rest, "{error}");
+    let said = WORDS.saturating_sub(rest.len());
+    let words = str::from_utf8(&room[..said]).unwrap_or("");
+    let why = match words.split_once(" (os error ") {
+        Some((before, _)) => before,
+        None => words,
+    };
+    let _ = eprintln!(rt; "trace: {stream}: {why}");
+}
+
 // Reads what is there, up to 64 KB, behind what was kept. A read that a signal interrupts has brought nothing.
-fn read_on(input: &mut [u8], kept: usize) -> Got
+fn read_on(rt: &impl Eprint, stdin: &mut impl Read, input: &mut [u8], kept: usize) -> Got
     requires { kept ≤ length input.old }
     ensures { Within (length input.old) result }
 {
-    let rest = &mut input[kept..];
-    let got = libc::read(STDIN_FILENO, rest);
-    if got < 0 {
-        if os::errno() == libc::EINTR {
-            return Got::Filled(kept);
+    match stdin.read(&mut input[kept..]) {
+        Ok(0) => Got::Ended,
+        Ok(n) => Got::Filled(kept + n),
+        Err(e) => {
+            if e.kind() == ErrorKind::Interrupted {
+                return Got::Filled(kept);
+            }
+            fail(rt, "standard input", &e);
+            Got::Failed
         }
-        os::fail(b"trace: standard input");
-        return Got::Failed;
     }
-    if got == 0 {
-        return Got::Ended;
-    }
-    let n = io::count(got, rest);
-    Got::Filled(kept + n)
 }
 
 // Writes the front of the text, and says so where it cannot.
-fn write_out(text: &[u8], n: usize) -> bool
+fn write_out(rt: &(impl Print + Eprint), text: &[u8], n: usize) -> bool
     requires { n ≤ length text.now }
 {
-    let written = io::write_all(STDOUT_FILENO, &text[0..n]);
-    if !written {
-        os::fail(b"trace: standard output");
+    match Print::write_all(rt, &text[0..n]) {
+        Ok(()) => true,
+        Err(e) => {
+            fail(rt, "standard output", &e);
+            false
+        }
     }
-    written
 }
 
 // The input has ended: what was kept is a record that is too short, and so a bad one.
-fn finish(run: Run, kept: usize, text: &mut [u8])
+fn finish(rt: &(impl Print + Eprint), run: Run, kept: usize, text: &mut [u8])
     requires { most_line ≤ length text.old }
 {
     if kept == 0 {
         return;
     }
     let place = lines::put_bad(run.number, text, 0);
-    write_out(text, place);
+    write_out(rt, text, place);
 }
 
 // A proved loop has to end, and nothing says that the input does: the turns are counted down from a number that no run
 // uses up.
-fn main() {
+fn main(rt: HostRuntime) {
+    let mut stdin = rt.stdin();
     let mut input = [0u8; INPUT];
     let mut memory = [0u8; payload::MEMORY_BYTES];
     let mut plan = [0u16; plan::PLAN_NUMBERS];
@@ -83,7 +103,7 @@ fn main() {
     let mut turns = u64::MAX;
     while turns > 0 {
         turns -= 1;
-        match read_on(&mut input, kept) {
+        match read_on(&rt, &mut stdin, &mut input, kept) {
             Got::Filled(filled) => {
                 let h = blocks::turn(
                     run,
@@ -95,7 +115,7 @@ fn main() {
                     &mut deliveries,
                     &mut text,
                 );
-                if !write_out(&text, h.written) {
+                if !write_out(&rt, &text, h.written) {
                     return;
                 }
                 run = h.run;
@@ -105,7 +125,7 @@ fn main() {
                 }
             }
             Got::Ended => {
-                finish(run, kept, &mut text);
+                finish(&rt, run, kept, &mut text);
                 return;
             }
             Got::Failed => {

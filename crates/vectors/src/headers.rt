@@ -5,7 +5,7 @@
 ghost use Rattle.std.specs.Prelude.{◌≤◌};
 
 use hec::{Reading32, Reading64};
-use libc::STDOUT_FILENO;
+use std::io;
 
 // Table A.1, from bit position 63 to 1.
 const TABLE_A1: [u16; 63] = [
@@ -68,13 +68,8 @@ enum Outcome {
     Differ,
 }
 
-fn line(name: &[u8], right: u64, of: u64) {
-    io::write_all(STDOUT_FILENO, name);
-    io::write_all(STDOUT_FILENO, b" ");
-    io::print_decimal(STDOUT_FILENO, right);
-    io::write_all(STDOUT_FILENO, b" of ");
-    io::print_decimal(STDOUT_FILENO, of);
-    io::write_all(STDOUT_FILENO, b"\n");
+fn line(rt: &impl Print, name: &str, right: u64, of: u64) -> io::Result<()> {
+    println!(rt; "{name} {right} of {of}")
 }
 
 fn counted(n: u64, m: u64) -> u64 {
@@ -179,7 +174,7 @@ fn three_flips(bits: u32, wanted: u64, word: u64) -> u64
     right
 }
 
-fn table_a1() {
+fn table_a1(rt: &impl Print) -> io::Result<()> {
     let remainders = bch::remainders::table();
     let printed = TABLE_A1;
     let mut right: u64 = 0;
@@ -188,7 +183,7 @@ fn table_a1() {
         right = counted(right, one_if(remainders[k] == printed[62 - k]));
         k += 1;
     }
-    line(b"A.1 syndromes", right, 63);
+    line(rt, "A.1 syndromes", right, 63)
 }
 
 // The counts of a table: words that read as themselves, words written from their data bits, and flips of one, two and
@@ -231,7 +226,7 @@ fn nothing() -> Counts {
     }
 }
 
-fn table_a2() {
+fn table_a2(rt: &impl Print) -> io::Result<()> {
     let words = TABLE_A2;
     let mut c = nothing();
     let mut k: usize = 0;
@@ -241,11 +236,11 @@ fn table_a2() {
         c = flipped(stands(c, 64, word, written.bits()), 64, word);
         k += 1;
     }
-    line(b"A.2 read", c.read, 33);
-    line(b"A.2 written", c.written, 33);
-    line(b"A.2 one bit", c.one, 33 * 64);
-    line(b"A.2 two bits", c.two, 33 * 2016);
-    line(b"A.2 three bits unreadable", c.three, 33 * 41664);
+    line(rt, "A.2 read", c.read, 33)?;
+    line(rt, "A.2 written", c.written, 33)?;
+    line(rt, "A.2 one bit", c.one, 33 * 64)?;
+    line(rt, "A.2 two bits", c.two, 33 * 2016)?;
+    line(rt, "A.2 three bits unreadable", c.three, 33 * 41664)
 }
 
 fn written32(word: u32) -> u64 {
@@ -258,7 +253,7 @@ fn wide(word: u32) -> u64 {
     word as u64
 }
 
-fn table_a3() {
+fn table_a3(rt: &impl Print) -> io::Result<()> {
     let words = TABLE_A3;
     let mut c = nothing();
     let mut k: usize = 0;
@@ -267,11 +262,11 @@ fn table_a3() {
         c = flipped(stands(c, 32, wide(word), written32(word)), 32, wide(word));
         k += 1;
     }
-    line(b"A.3 read", c.read, 24);
-    line(b"A.3 written", c.written, 24);
-    line(b"A.3 one bit", c.one, 24 * 32);
-    line(b"A.3 two bits", c.two, 24 * 496);
-    line(b"A.3 three bits unreadable", c.three, 24 * 4960);
+    line(rt, "A.3 read", c.read, 24)?;
+    line(rt, "A.3 written", c.written, 24)?;
+    line(rt, "A.3 one bit", c.one, 24 * 32)?;
+    line(rt, "A.3 two bits", c.two, 24 * 496)?;
+    line(rt, "A.3 three bits unreadable", c.three, 24 * 4960)
 }
 
 // A word of 32 bits with the syndrome of a flip at two bit positions of 64: its check bits, and the last bit for the
@@ -294,7 +289,7 @@ fn unsent_at(remainders: &[u16; 63], above: u16) -> u64 {
     right
 }
 
-fn unsent_zeros() {
+fn unsent_zeros(rt: &impl Print) -> io::Result<()> {
     let remainders = bch::remainders::table();
     let mut right: u64 = 0;
     let mut k: usize = 31;
@@ -303,12 +298,12 @@ fn unsent_zeros() {
         right = counted(right, unsent_at(&remainders, above));
         k += 1;
     }
-    line(b"HLend not mended in unsent zeros", right, 32 * 31);
+    line(rt, "HLend not mended in unsent zeros", right, 32 * 31)
 }
 
-pub fn run() {
-    table_a1();
-    table_a2();
-    table_a3();
-    unsent_zeros();
+pub fn run(rt: &impl Print) -> io::Result<()> {
+    table_a1(rt)?;
+    table_a2(rt)?;
+    table_a3(rt)?;
+    unsent_zeros(rt)
 }

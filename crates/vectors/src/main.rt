@@ -1,8 +1,12 @@
 // Runs the documents' vectors and prints what was computed.
+#![tactic(auto)]
+
 mod headers;
 mod macs;
 
-fn main() {
-    headers::run();
-    macs::run();
+use std::io;
+
+fn main(rt: HostRuntime) -> io::Result<()> {
+    headers::run(&rt)?;
+    macs::run(&rt)
 }

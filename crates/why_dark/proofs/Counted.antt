@@ -10,7 +10,7 @@ use Rattle.downstream.specs.declared.Opening.TheVariants.{Refused, Unread, Opene
 use Rattle.downstream.specs.Opening.{opening}
 use Rattle.downstream.proofs.Laws.{opened}
 use Rattle.engine.specs.Naming.{names_fit, names_by, named_in, why_dark_lem}
-use Rattle.engine.proofs.Named.{hlend_count}
+use Rattle.engine.proofs.AllNamed.{hlend_count}
 
 pub count_within : (s : Station) (f names : List ℕ) → (why_dark_lem s f names).found.count ≤ 2047
 unfolding why_dark_lem named_in

@@ -1,5 +1,7 @@
 // Why did it stay dark: standard input holds a state's octets and behind them one frame; for each structure of the frame's map a
 // line says what became of it in that state.
+#![tactic(auto)]
+
 mod report;
 mod structures;
 mod words;
@@ -8,7 +10,8 @@ ghost use Rattle.std.specs.Prelude.{◌≤◌, length};
 ghost use Rattle.why_dark.specs.Reads.{Within};
 ghost use Rattle.why_dark.specs.Report.{most_text};
 
-use libc::{STDIN_FILENO, STDOUT_FILENO};
+use std::io;
+use std::io::{ErrorKind, Read, Write};
 
 // One octet more than an input can have: a longer one is known by it, and no more of it is read.
 const INPUT: usize = report::MOST_INPUT + 1;
@@ -25,52 +28,67 @@ enum Got {
     Failed,
 }
 
+// Room for what the system says of a failed call.
+const WORDS: usize = 256;
+
+// Says on standard error which stream failed, and why: in the system's words, without the number that the library puts behind them.
+fn fail(rt: &impl Eprint, stream: &str, error: &io::Error) {
+    let mut room = [0u8; WORDS];
+    let mut rest = &mut room[..];
+    let _ = write!(rest, "{error}");
+    let said = WORDS.saturating_sub(rest.len());
+    let words = str::from_utf8(&room[..said]).unwrap_or("");
+    let why = match words.split_once(" (os error ") {
+        Some((before, _)) => before,
+        None => words,
+    };
+    let _ = eprintln!(rt; "why_dark: {stream}: {why}");
+}
+
 // Reads behind what was read. A read that a signal interrupts has brought nothing; one into a full input has nothing to bring, and ends it.
-fn read_on(input: &mut [u8], filled: usize) -> Got
+fn read_on(rt: &impl Eprint, stdin: &mut impl Read, input: &mut [u8], filled: usize) -> Got
     requires { filled ≤ length input.old }
     ensures { Within (length input.old) result }
 {
-    let rest = &mut input[filled..];
-    let got = libc::read(STDIN_FILENO, rest);
-    if got < 0 {
-        if os::errno() == libc::EINTR {
-            return Got::Filled(filled);
+    match stdin.read(&mut input[filled..]) {
+        Ok(0) => Got::Ended,
+        Ok(n) => Got::Filled(filled + n),
+        Err(e) => {
+            if e.kind() == ErrorKind::Interrupted {
+                return Got::Filled(filled);
+            }
+            fail(rt, "standard input", &e);
+            Got::Failed
         }
-        os::fail(b"why_dark: standard input");
-        return Got::Failed;
     }
-    if got == 0 {
-        return Got::Ended;
-    }
-    let n = io::count(got, rest);
-    Got::Filled(filled + n)
 }
 
-// A program of Rattle has no exit status: what is wrong with an input is told where a script looks, among the lines.
-fn print(input: &[u8], filled: usize, text: &mut [u8])
+// The exit status is 0 whatever an input is: what is wrong with one is told where a script looks, among the lines.
+fn print(rt: &(impl Print + Eprint), input: &[u8], filled: usize, text: &mut [u8])
     requires { (filled ≤ length input.now) × (most_text ≤ length text.old) }
 {
     let n = report::report(&input[0..filled], text);
-    if !io::write_all(STDOUT_FILENO, &text[0..n]) {
-        os::fail(b"why_dark: standard output");
+    if let Err(e) = Print::write_all(rt, &text[0..n]) {
+        fail(rt, "standard output", &e);
     }
 }
 
 // A proved loop has to end, and nothing says that the input does: the turns are counted down from a number that no run
 // uses up.
-fn main() {
+fn main(rt: HostRuntime) {
+    let mut stdin = rt.stdin();
     let mut input = [0u8; INPUT];
     let mut text = [0u8; TEXT];
     let mut filled = 0;
     let mut turns = u64::MAX;
     while turns > 0 {
         turns -= 1;
-        match read_on(&mut input, filled) {
+        match read_on(&rt, &mut stdin, &mut input, filled) {
             Got::Filled(n) => {
                 filled = n;
             }
             Got::Ended => {
-                print(&input, filled, &mut text);
+                print(&rt, &input, filled, &mut text);
                 return;
             }
             Got::Failed => {

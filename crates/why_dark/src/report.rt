@@ -14,7 +14,7 @@ use text::NEWLINE;
 pub(crate) const MOST_INPUT: usize = STATE_BYTES + MOST_FRAME;
 
 fn put_refusal(answer: Answer, text: &mut [u8], at: usize) -> usize
-    ensures { record { text = text.exit.now; place = result } ≡ added text.entry.now at (refusal answer) }
+    ensures { record { text = text.new; place = result } ≡ added text.old at (refusal answer) }
 {
     let b = words::put_labelled(b"refused ", answer.number() as u64, text, at);
     let c = text::put_word(b": ", text, b);
@@ -23,7 +23,7 @@ fn put_refusal(answer: Answer, text: &mut [u8], at: usize) -> usize
 }
 
 fn put_frame(s: Station, frame: &[u8], text: &mut [u8], at: usize) -> usize
-    ensures { record { text = text.exit.now; place = result } ≡ added text.entry.now at (frame_report s frame.now) }
+    ensures { record { text = text.new; place = result } ≡ added text.old at (frame_report s frame.now) }
 {
     let mut names = [0u8; MOST_STRUCTURES];
     let named = engine::why_dark(s, frame, &mut names);
@@ -36,7 +36,7 @@ fn put_frame(s: Station, frame: &[u8], text: &mut [u8], at: usize) -> usize
 }
 
 fn put_report(input: &[u8], text: &mut [u8], at: usize) -> usize
-    ensures { record { text = text.exit.now; place = result } ≡ added text.entry.now at (report input.now) }
+    ensures { record { text = text.new; place = result } ≡ added text.old at (report input.now) }
 {
     if MOST_INPUT < input.len() {
         return text::put_word(

@@ -12,7 +12,7 @@ use text::{NEWLINE, SPACE};
 use xgtc::allocation::{Allocation, AllocationRead};
 
 fn put_numbers(a: Allocation, text: &mut [u8], at: usize) -> usize
-    ensures { record { text = text.exit.now; place = result } ≡ added text.entry.now at (numbers_of_lem a) }
+    ensures { record { text = text.new; place = result } ≡ added text.old at (numbers_of_lem a) }
 {
     let alloc = a.alloc;
     let b = words::put_labelled(b": Alloc-ID ", alloc.0 as u64, text, at);
@@ -22,7 +22,7 @@ fn put_numbers(a: Allocation, text: &mut [u8], at: usize) -> usize
 }
 
 fn put_marks(a: Allocation, text: &mut [u8], at: usize) -> usize
-    ensures { record { text = text.exit.now; place = result } ≡ added text.entry.now at (marks_of_lem a) }
+    ensures { record { text = text.new; place = result } ≡ added text.old at (marks_of_lem a) }
 {
     let b = words::put_mark(a.dbru, b", DBRu", text, at);
     let c = words::put_mark(a.ploamu, b", PLOAMu", text, b);
@@ -30,7 +30,7 @@ fn put_marks(a: Allocation, text: &mut [u8], at: usize) -> usize
 }
 
 fn put_fields(read: AllocationRead, text: &mut [u8], at: usize) -> usize
-    ensures { record { text = text.exit.now; place = result } ≡ added text.entry.now at (fields_of (found_allocation read)) }
+    ensures { record { text = text.new; place = result } ≡ added text.old at (fields_of (found_allocation read)) }
 {
     match read {
         AllocationRead::Fields(a) => {
@@ -43,7 +43,7 @@ fn put_fields(read: AllocationRead, text: &mut [u8], at: usize) -> usize
 }
 
 fn put_line(number: usize, name: u8, read: AllocationRead, text: &mut [u8], at: usize) -> usize
-    ensures { record { text = text.exit.now; place = result } ≡ added text.entry.now at (line_of number name (found_allocation read)) }
+    ensures { record { text = text.new; place = result } ≡ added text.old at (line_of number name (found_allocation read)) }
 {
     let b = text::put_field(number as u64, SPACE, text, at);
     let c = words::put_name(name, text, b);
@@ -65,7 +65,7 @@ fn structure(frame: &[u8], i: usize) -> AllocationRead
 
 fn put_lines(frame: &[u8], names: &[u8], text: &mut [u8], at: usize) -> usize
     requires { length names.now ≤ most_structures }
-    ensures { record { text = text.exit.now; place = result } ≡ added text.entry.now at (lines_from frame.now 0 names.now) }
+    ensures { record { text = text.new; place = result } ≡ added text.old at (lines_from frame.now 0 names.now) }
 {
     let mut place = at;
     let mut i: usize = 0;
@@ -78,7 +78,7 @@ fn put_lines(frame: &[u8], names: &[u8], text: &mut [u8], at: usize) -> usize
 
 pub(crate) fn put_structures(frame: &[u8], names: &[u8], text: &mut [u8], at: usize) -> usize
     requires { length names.now ≤ most_structures }
-    ensures { record { text = text.exit.now; place = result } ≡ added text.entry.now at (lines frame.now names.now) }
+    ensures { record { text = text.new; place = result } ≡ added text.old at (lines frame.now names.now) }
 {
     if names.len() == 0 {
         return text::put_word(b"no structures\n", text, at);

@@ -10,7 +10,7 @@ use entries::{
 };
 
 pub(crate) fn put_name(name: u8, text: &mut [u8], at: usize) -> usize
-    ensures { record { text = text.exit.now; place = result } ≡ added text.entry.now at (name_of name) }
+    ensures { record { text = text.new; place = result } ≡ added text.old at (name_of name) }
 {
     match name {
         PLANNED => text::put_word(b"planned", text, at),
@@ -29,7 +29,7 @@ pub(crate) fn put_name(name: u8, text: &mut [u8], at: usize) -> usize
 }
 
 pub(crate) fn put_meaning(answer: Answer, text: &mut [u8], at: usize) -> usize
-    ensures { record { text = text.exit.now; place = result } ≡ added text.entry.now at (meaning answer) }
+    ensures { record { text = text.new; place = result } ≡ added text.old at (meaning answer) }
 {
     match answer {
         Answer::Done => at,
@@ -49,7 +49,7 @@ pub(crate) fn put_meaning(answer: Answer, text: &mut [u8], at: usize) -> usize
 
 // A mark's name, where it is set.
 pub(crate) fn put_mark(set: bool, name: &[u8], text: &mut [u8], at: usize) -> usize
-    ensures { record { text = text.exit.now; place = result } ≡ added text.entry.now at (marked set name.now) }
+    ensures { record { text = text.new; place = result } ≡ added text.old at (marked set name.now) }
 {
     if set {
         return text::put_word(name, text, at);
@@ -59,7 +59,7 @@ pub(crate) fn put_mark(set: bool, name: &[u8], text: &mut [u8], at: usize) -> us
 
 // A number behind what it is.
 pub(crate) fn put_labelled(label: &[u8], n: u64, text: &mut [u8], at: usize) -> usize
-    ensures { record { text = text.exit.now; place = result } ≡ added text.entry.now at (labelled label.now n) }
+    ensures { record { text = text.new; place = result } ≡ added text.old at (labelled label.now n) }
 {
     let b = text::put_word(label, text, at);
     text::put_decimal(n, text, b)
