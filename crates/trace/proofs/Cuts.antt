@@ -1,10 +1,10 @@
 -- What is printed does not depend on how the input is cut into reads.
 -- Assumes nothing.
-use Rattle.std.proofs.Common.{◌≡◌, ℕ, zero, suc, ◌+◌, ◌-◌, ◌*◌, ◌/◌, ◌<◌, ◌≤◌, false, eqb, List, [], ◌∷◌, ◌++◌, length, take, drop, sym, refl, ap, ◌∙◌, ap₂, append_assoc, append-nil, zero-add, arith, length-append, length-drop, length-take-le, take_all, drop-drop, take_at, ne_eqb}
+use Rattle.std.proofs.Common.{◌≡◌, ℕ, zero, suc, ◌+◌, ◌-◌, ◌*◌, ◌/◌, ◌<◌, ◌≤◌, false, eqb, List, [], ◌∷◌, ◌++◌, length, take, drop, sym, refl, ap, ◌∙◌, ap₂, append_assoc, append-nil, zero-add, arith, length-append, length-drop, take_all, drop-drop, take_at, ne_eqb}
 use lib.Seq.{drop-append-le}
 use Rattle.payload.specs.Memory.{put}
 use Rattle.trace.specs.Lines.{bad_line}
-use Rattle.trace.specs.Records.{kind_of, records, wholes, whole_records, left, records_of_lem}
+use Rattle.trace.specs.Records.{kind_of, records, whole_records, left, records_of_lem}
 use Rattle.trace.specs.Runs.{At, step, after, lines_of, powered, turned, trace_of}
 use Rattle.trace.specs.Sessions.{joined, written_from, written_of}
 use Rattle.trace.proofs.Turns.{records_front}

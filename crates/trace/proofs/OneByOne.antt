@@ -1,11 +1,11 @@
 -- Records one after another.
 -- Assumes nothing.
-use Rattle.std.proofs.Common.{◌≡◌, ℕ, zero, suc, ◌+◌, ◌-◌, ◌*◌, ◌<◌, ◌≤◌, List, [], ◌∷◌, ◌++◌, length, take, drop, sym, refl, ap, ◌∙◌, ap₂, append_assoc, add-zero, arith, length-append, drop-drop}
+use Rattle.std.proofs.Common.{◌≡◌, ℕ, zero, suc, ◌+◌, ◌-◌, ◌*◌, ◌<◌, ◌≤◌, List, [], ◌∷◌, ◌++◌, length, take, drop, sym, refl, ap, ◌∙◌, add-zero, arith, length-append, drop-drop}
 use native.Mathlib.Nat.{sub-zero, add-sub_cancel_left}
 use Rattle.payload.specs.Memory.{put}
 use Rattle.payload.proofs.Put.{put-put}
 use Rattle.trace.specs.Records.{records}
-use Rattle.trace.specs.Runs.{At, Step, Shown, after, lines_of, step, shown_by, shown}
+use Rattle.trace.specs.Runs.{Shown, after, lines_of, step, shown_by, shown}
 use Rattle.trace.proofs.Steps.{put-nothing}
 
 -- records that follow what is shown

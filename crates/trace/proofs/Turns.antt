@@ -1,11 +1,10 @@
 -- One turn: what a read has brought.
 -- Assumes nothing.
-use Rattle.std.proofs.Common.{◌≡◌, ℕ, zero, suc, ◌+◌, ◌-◌, ◌*◌, ◌/◌, ◌<◌, ◌≤◌, List, [], ◌∷◌, ◌++◌, length, take, drop, sym, refl, ap, ◌∙◌, ap₂, zero-add, arith, length-append, length-drop, take-append-drop, length-take, length-take-le, take_all, take-take, take_at, take-add}
-use native.Mathlib.Nat.{add-sub_cancel_left}
+use Rattle.std.proofs.Common.{◌≡◌, ℕ, zero, suc, ◌+◌, ◌-◌, ◌*◌, ◌/◌, ◌≤◌, List, [], ◌∷◌, ◌++◌, length, take, drop, sym, refl, ap, ◌∙◌, ap₂, zero-add, arith, length-drop, length-take-le, take-take, take-add}
 use lib.Seq.{drop-append-le}
 use Rattle.payload.specs.Memory.{put}
 use Rattle.trace.specs.Records.{records, wholes, whole_records, left}
-use Rattle.trace.specs.Runs.{At, Shown, Turned, after, lines_of, shown, turned, turned_by}
+use Rattle.trace.specs.Runs.{At, Shown, Turned, shown, turned}
 
 -- the end of a front
 pub drop_front : (k n : ℕ) (l : List ℕ) → k ≤ n → n ≤ length l → drop k (take n l) ≡ take (n - k) (drop k l)

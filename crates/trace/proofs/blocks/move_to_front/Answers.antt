@@ -1,5 +1,5 @@
 -- `trace::blocks::move_to_front` meets its contract.
-use Rattle.std.proofs.Common.{◌≡◌, ◌+◌, ◌-◌, ◌++◌, length, take, drop, refl, ap, ◌∙◌, arith, length-set}
+use Rattle.std.proofs.Common.{◌≡◌, ◌-◌, ◌++◌, take, drop, refl, ap, ◌∙◌, arith, length-set}
 use Rattle.trace.proofs.Moves.{moved_on, moved_all}
 use Rattle.trace.proofs.blocks.move_to_front.Goals as goal
 

@@ -1,5 +1,5 @@
 -- `trace::blocks::move_to_front` meets its contract.
-use Rattle.std.proofs.Common.{◌≡◌, ◌+◌, ◌-◌, ◌≤◌, ◌++◌, length, take, drop}
+use Rattle.std.proofs.Common.{◌≡◌, ◌-◌, ◌≤◌, ◌++◌, length, take, drop}
 use Rattle.trace.proofs.blocks.move_to_front.Given as goal
 
 abbrev pub invariant-loop-i : goal.invariant-loop-i

@@ -1,5 +1,5 @@
 -- `trace::blocks::print_records` meets its contract.
-use Rattle.std.proofs.Common.{◌-◌, refl, ◌∙◌, arith}
+use Rattle.std.proofs.Common.{refl, ◌∙◌, arith}
 use Rattle.trace.proofs.OneByOne.{block_start, block-turn, block_end}
 use Rattle.trace.proofs.blocks.print_records.Invariants.{showing}
 use Rattle.trace.proofs.blocks.print_records.Goals as goal

@@ -1,6 +1,5 @@
 -- `why_dark::structures::put_lines` meets its contract.
 use mathlib.Core.Path.{refl, ◌∙◌}
-use Prim.Native.Nat.{◌-◌}
 use native.Mathlib.Omega.{arith}
 use Rattle.why_dark.proofs.Lines.{lines-turn, lines_end}
 use Rattle.why_dark.proofs.structures.put_lines.Goals as goal
