@@ -8,7 +8,6 @@ use native.Mathlib.Omega.{arith}
 use native.Mathlib.Numerals.{add-one}
 use lib.ListN.{length, get_or, take, length-take, drop_of_length-le}
 use lib.Seq.{slice, get_or-take, drop-cons}
-use Rattle.ids.specs.declared.Place.{Place}
 use Rattle.ids.specs.declared.Place.TheVariants.{At, Nowhere}
 use Rattle.ids.specs.Places.{place_from}
 
