@@ -153,19 +153,19 @@ extern "C" {
 
 /* Bytes of stack that a call takes at most, its arguments and return address included, as measured on this build by tests/stack,
  * which fails if a call takes more. What the caller's own frames, a signal handler or an interrupt need comes on top. */
-#define LINGBARROW_STACK_POWER_ON 672
-#define LINGBARROW_STACK_IN_RANGE 816
-#define LINGBARROW_STACK_FRAME 5656
-#define LINGBARROW_STACK_LOST 1392
-#define LINGBARROW_STACK_ADD_PORT 1552
-#define LINGBARROW_STACK_REMOVE_PORT 1552
-#define LINGBARROW_STACK_GIVE_KEY 1520
-#define LINGBARROW_STACK_STRETCH 1392
-#define LINGBARROW_STACK_STRETCHES 1424
-#define LINGBARROW_STACK_WHY_DARK 1520
-#define LINGBARROW_STACK_WRITE_HLEND 176
-#define LINGBARROW_STACK_WRITE_ALLOCATION 224
-#define LINGBARROW_STACK_WRITE_XGEM_FRAME 240
+#define LINGBARROW_STACK_POWER_ON 600
+#define LINGBARROW_STACK_IN_RANGE 536
+#define LINGBARROW_STACK_FRAME 3368
+#define LINGBARROW_STACK_LOST 1112
+#define LINGBARROW_STACK_ADD_PORT 1432
+#define LINGBARROW_STACK_REMOVE_PORT 1448
+#define LINGBARROW_STACK_GIVE_KEY 1256
+#define LINGBARROW_STACK_STRETCH 632
+#define LINGBARROW_STACK_STRETCHES 888
+#define LINGBARROW_STACK_WHY_DARK 984
+#define LINGBARROW_STACK_WRITE_HLEND 40
+#define LINGBARROW_STACK_WRITE_ALLOCATION 80
+#define LINGBARROW_STACK_WRITE_XGEM_FRAME 88
 
 /* A station in O1 with nothing held. 0, or 3 and nothing is changed. The port memory may hold anything. */
 uint8_t lingbarrow_power_on(uint8_t *state, size_t state_length, const uint8_t *serial, size_t serial_length,

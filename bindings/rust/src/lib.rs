@@ -126,19 +126,19 @@ pub mod message {
 /// Bytes of stack that each call of the library takes at most, as the C header has them. What a wrapper takes for itself and what the
 /// caller's own frames need comes on top.
 pub mod stack {
-    pub const POWER_ON: usize = 672;
-    pub const IN_RANGE: usize = 816;
-    pub const FRAME: usize = 5_656;
-    pub const LOST: usize = 1_392;
-    pub const ADD_PORT: usize = 1_552;
-    pub const REMOVE_PORT: usize = 1_552;
-    pub const GIVE_KEY: usize = 1_520;
-    pub const STRETCH: usize = 1_392;
-    pub const STRETCHES: usize = 1_424;
-    pub const WHY_DARK: usize = 1_520;
-    pub const WRITE_HLEND: usize = 176;
-    pub const WRITE_ALLOCATION: usize = 224;
-    pub const WRITE_XGEM_FRAME: usize = 240;
+    pub const POWER_ON: usize = 600;
+    pub const IN_RANGE: usize = 536;
+    pub const FRAME: usize = 3_368;
+    pub const LOST: usize = 1_112;
+    pub const ADD_PORT: usize = 1_432;
+    pub const REMOVE_PORT: usize = 1_448;
+    pub const GIVE_KEY: usize = 1_256;
+    pub const STRETCH: usize = 632;
+    pub const STRETCHES: usize = 888;
+    pub const WHY_DARK: usize = 984;
+    pub const WRITE_HLEND: usize = 40;
+    pub const WRITE_ALLOCATION: usize = 80;
+    pub const WRITE_XGEM_FRAME: usize = 88;
 }
 
 /// Names a station on the branch.

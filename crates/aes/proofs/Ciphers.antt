@@ -2,14 +2,13 @@
 -- Assumes nothing.
 use mathlib.Core.Path.{◌≡◌, refl, sym, ap, ap₂, ◌∙◌}
 use mathlib.Core.List.{List}
-use Prim.Native.Nat.{ℕ, zero, suc, ◌+◌, ◌*◌, ◌/◌, ◌%◌, ◌<◌, ◌≤◌}
+use Prim.Native.Nat.{ℕ, zero, suc, ◌*◌, ◌<◌}
 use native.Mathlib.Omega.{arith}
 use lib.Bits.{bit_xor, xor_comm, xor_zero_r}
-use lib.ListN.{get_or}
 use Rattle.subbytes.specs.Field.{s_box, xtime}
 use Rattle.subbytes.proofs.SboxRule.{s_box_byte, xtime_byte}
 use Rattle.mixcolumns.specs.Columns.{joined, turned, mix_of}
-use Rattle.aes.specs.Cipher.{at, mixed, shift_rows, sub_bytes, add_round_key, round_of, last_of, next_key_lem, rcon, round_key, rounds, aes128}
+use Rattle.aes.specs.Cipher.{mixed, add_round_key, round_of, last_of, next_key_lem, rcon, round_key, rounds, aes128}
 use Rattle.aes.specs.Words.{octet0, octet1, octet2, octet3, octets_of, added, Four}
 use Rattle.aes.specs.OnWords.{column_on, round_on, last_column_on, last_on, turned_word_on, next_key_on, round_key_on, rounds_on, cipher_on}
 use Rattle.aes.specs.declared.Words.{Words}

@@ -1,15 +1,12 @@
 -- Blocks in an array, one after another: what is worked, what is still as it was, and one working after another.
 -- Assumes nothing.
 use mathlib.Core.Path.{◌≡◌, refl, sym, ap, ap₂, ◌∙◌}
-use mathlib.Core.Bool.{cond}
 use mathlib.Core.List.{List, [], ◌∷◌}
-use Prim.Native.Nat.{ℕ, zero, suc, ◌+◌, ◌-◌, ◌*◌, ◌%◌, ◌<◌, ◌≤◌}
-use native.Mathlib.Nat.{suc-mul, add-zero, add-suc, zero-add}
+use Prim.Native.Nat.{ℕ, zero, suc, ◌+◌, ◌*◌, ◌%◌, ◌<◌, ◌≤◌}
+use native.Mathlib.Nat.{add-zero, zero-add}
 use native.Mathlib.Numerals.{add-one}
 use native.Mathlib.Omega.{arith}
-use lib.Dec.{ltb}
-use lib.ListN.{length, get_or, set}
-use borrow.Author.Tests.{lt-ltb, le-ltb}
+use lib.ListN.{length, set}
 use Rattle.aes.specs.Cipher.{at}
 use Rattle.aes.specs.Blocks.{block_in, with_block, each_from, each}
 use Rattle.aes.specs.declared.Words.{Words}
@@ -34,14 +31,6 @@ with-behind a b c d l j w =
     ap₂ (λ (i3 : ℕ) (t : List ℕ). set t i3 w.d) (four_more j 3)
     (ap₂ (λ (i2 : ℕ) (t : List ℕ). set t i2 w.c) (four_more j 2)
     (ap₂ (λ (i1 : ℕ) (t : List ℕ). set t i1 w.b) (four_more j 1) (ap (λ (i0 : ℕ). set m i0 w.a) (four_on j))))
-
-pub length-each : (i n : ℕ) (f : ℕ → Words → Words) (l : List ℕ) → length (each_from i n f l) ≡ length l
-length-each i zero f l = refl
-length-each i (suc n) f [] = refl
-length-each i (suc n) f (a ∷ []) = refl
-length-each i (suc n) f (a ∷ b ∷ []) = refl
-length-each i (suc n) f (a ∷ b ∷ c ∷ []) = refl
-length-each i (suc n) f (a ∷ b ∷ c ∷ d ∷ l) = ap (λ (k : ℕ). suc (suc (suc (suc k)))) (length-each (suc i) n f l)
 
 -- a block that was reached
 pub block_worked : (i n : ℕ) (f : ℕ → Words → Words) (l : List ℕ) (j : ℕ) → j < n → j * 4 + 4 ≤ length l
@@ -138,23 +127,3 @@ next-each f l s t j hl h es et =
     ∙ ap₂ (λ (k : ℕ) (x : Words). with_block (each j f l) j (f k x)) (sym (zero-add j)) (block-left 0 j f l j (omega arith))
     ∙ one_more 0 j f l (omega arith)
     ∙ ap (λ (k : ℕ). each k f l) (sym (add-one j))
-
--- a turn of the loop that has the block at hand
-module _ (f : ℕ → Words → Words) (l s t : List ℕ) (x w : Words) (j n : ℕ) (hl : length l ≡ 32) (hj : j < n) (hn : n ≤ 8) (es : s ≡ each j f l)
-    (ex : x ≡ block_in s (cond (ltb j n) j 0)) (ew : w ≡ f j x) (et : t ≡ with_block s (j % 8) w) where
-  hand : x ≡ block_in s j
-  hand = simp (lt-ltb j n hj) at ex
-
-  pub worked_turn : t ≡ each (j + 1) f l
-  worked_turn =
-      let small : j % 8 ≡ j = omega arith in
-      next-each f l s t j hl (omega arith) es
-      (et ∙ ap (with_block s (j % 8)) (ew ∙ ap (f j) (hand ∙ ap (block_in s) (sym small))))
-
-  pub at_hand : w ≡ block_in t (j + 1 - 1)
-  at_hand =
-      let back : j + 1 - 1 ≡ j = omega arith in
-      ew ∙ ap (f j) (hand ∙ ap (λ (u : List ℕ). block_in u j) es ∙ block-left 0 j f l j (omega arith))
-      ∙ ap (λ (k : ℕ). f k (block_in l j)) (sym (zero-add j))
-      ∙ sym (block_worked 0 (j + 1) f l j (omega arith) (omega arith))
-      ∙ ap₂ block_in (sym worked_turn) (sym back)

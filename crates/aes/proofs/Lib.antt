@@ -2,7 +2,6 @@ pub mod Blocks
 pub mod Xor
 pub mod Octets
 pub mod Ciphers
-pub mod Turns
 pub mod Each
 pub mod Rounds
 pub mod Determined

@@ -2,11 +2,11 @@
 -- Assumes nothing.
 use mathlib.Core.Path.{◌≡◌, refl, sym, ap, ◌∙◌}
 use mathlib.Core.List.{List, [], ◌∷◌}
-use Prim.Native.Nat.{ℕ, zero, suc, ◌+◌, ◌*◌, ◌/◌, ◌%◌, ◌<◌, ◌^◌}
+use Prim.Native.Nat.{ℕ, zero, suc, ◌/◌, ◌%◌, ◌<◌}
 use native.Mathlib.Omega.{arith}
 use lib.Bits.{bit_xor, xor_lt, xor_shr, xor_mod}
-use lib.ListN.{length, get_or}
-use Rattle.aes.specs.Cipher.{at, tabulate, block, add_round_key}
+use lib.ListN.{length}
+use Rattle.aes.specs.Cipher.{at, tabulate, add_round_key}
 use Rattle.aes.specs.Words.{joined, octet0, octet1, octet2, octet3, octets_of, words_of, added, Octets, Four}
 use Rattle.mixcolumns.specs.Columns.{turned}
 use Rattle.aes.specs.declared.Words.{Words}

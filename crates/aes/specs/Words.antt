@@ -1,6 +1,6 @@
 -- Sixteen octets as four words of 32 bits, the first octet of a word highest (FIPS 197, 3.5).
 -- Assumes nothing.
-use Rattle.std.specs.Prelude.{ℕ, ◌+◌, ◌*◌, ◌/◌, ◌%◌, ◌<◌, ◌≡◌, List, [], ◌∷◌, get_or}
+use Rattle.std.specs.Prelude.{ℕ, ◌/◌, ◌%◌, ◌<◌, ◌≡◌, List, [], ◌∷◌, get_or}
 use Rattle.std.specs.Int.Bits.{bit_xor}
 pub use Rattle.mixcolumns.specs.Columns.{joined}
 use Rattle.aes.specs.Cipher.{at}

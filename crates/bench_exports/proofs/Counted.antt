@@ -1,11 +1,13 @@
 -- A count over messages, one after the other; and that the true table and keys count what is genuine.
 -- Assumes nothing.
 use mathlib.Core.Path.{◌≡◌, refl, ap, ap₂}
+use mathlib.Core.Bool.{Bool, true, false}
 use mathlib.Core.List.{List}
 use Prim.Native.Nat.{ℕ, zero, suc, ◌+◌, ◌-◌, ◌*◌, ◌≤◌, ◌<◌}
 use native.Mathlib.Omega.{arith}
 use lib.ListN.{length, drop}
 use lib.Seq.{get_or-drop}
+use Rattle.std.specs.Int.{from_bool}
 use Rattle.aes.specs.Words.{Octets, words_of}
 use Rattle.cmac.specs.declared.Prepared.{Prepared}
 use Rattle.cmac.specs.Tags.{prepared_by}
@@ -14,6 +16,11 @@ use Rattle.integrity.specs.Integrity.{default_key_lem, genuine_by}
 use Rattle.integrity.proofs.Keys.{octets-take, genuine_prepared}
 use Rattle.messages.specs.Receiving.{messages_from}
 use Rattle.bench_exports.specs.Messages.{one_if_lem, genuine_count, genuine_count_by}
+
+-- a message counts 1, or 0
+pub counted_one : (b : Bool) (x : ℕ) → x ≡ from_bool b → (x ≡ one_if_lem b) × (x ≤ 1)
+counted_one true x e = (e, omega (arith, e))
+counted_one false x e = (e, omega (arith, e))
 
 module _ (usual installed : Prepared) (b : List ℕ) (n i sum : ℕ) where
   pub counted : (x : ℕ) → i < n → x ≡ one_if_lem (genuine_by usual installed (message_at b i))

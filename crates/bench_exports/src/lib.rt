@@ -8,25 +8,25 @@ mod stretch_search;
 
 ghost use Rattle.std.specs.Prelude.{◌≡◌};
 ghost use Rattle.bench_exports.specs.Sums.{read_sum, value_of};
-ghost use Rattle.hec.specs.Reads.{found32, found64};
+ghost use Rattle.hec.specs.Reads.{found_word};
 
-use hec::{Reading32, Reading64};
+use hec::{Word32, Word64};
 
-fn value32(r: Reading32) -> u32
-    ensures { result ≡ value_of (found32 r) }
+fn value32(r: Option<Word32>) -> u32
+    ensures { result ≡ value_of (found_word r) }
 {
     match r {
-        Reading32::Word(w) => w.bits(),
-        Reading32::Unreadable => 0,
+        Some(w) => w.bits(),
+        None => 0,
     }
 }
 
-fn value64(r: Reading64) -> u64
-    ensures { result ≡ value_of (found64 r) }
+fn value64(r: Option<Word64>) -> u64
+    ensures { result ≡ value_of (found_word r) }
 {
     match r {
-        Reading64::Word(w) => w.bits(),
-        Reading64::Unreadable => 0,
+        Some(w) => w.bits(),
+        None => 0,
     }
 }
 
@@ -35,11 +35,9 @@ fn value64(r: Reading64) -> u64
 pub extern "C" fn bench_read32(words: &[u32]) -> u32
     ensures { result ≡ read_sum 32 words.now }
 {
-    let mut sum: u32 = 0;
-    let mut i: usize = 0;
-    while i < words.len() {
-        sum = sum ^ value32(hec::read32(words[i]));
-        i += 1;
+    let mut sum = 0;
+    for word in words {
+        sum ^= value32(hec::read32(*word));
     }
     sum
 }
@@ -49,11 +47,9 @@ pub extern "C" fn bench_read32(words: &[u32]) -> u32
 pub extern "C" fn bench_read64(words: &[u64]) -> u64
     ensures { result ≡ read_sum 64 words.now }
 {
-    let mut sum: u64 = 0;
-    let mut i: usize = 0;
-    while i < words.len() {
-        sum = sum ^ value64(hec::read64_by_octets(words[i]));
-        i += 1;
+    let mut sum = 0;
+    for word in words {
+        sum ^= value64(hec::read64_by_octets(*word));
     }
     sum
 }
@@ -63,11 +59,9 @@ pub extern "C" fn bench_read64(words: &[u64]) -> u64
 pub extern "C" fn bench_read64_plain(words: &[u64]) -> u64
     ensures { result ≡ read_sum 64 words.now }
 {
-    let mut sum: u64 = 0;
-    let mut i: usize = 0;
-    while i < words.len() {
-        sum = sum ^ value64(hec::read64(words[i]));
-        i += 1;
+    let mut sum = 0;
+    for word in words {
+        sum ^= value64(hec::read64(*word));
     }
     sum
 }

@@ -3,7 +3,7 @@ ghost use Rattle.std.specs.Prelude.{◌≡◌};
 ghost use Rattle.bwmap.specs.Plan.{plan_of};
 ghost use Rattle.bench_exports.specs.Maps.{bench_own_lem, records_of_lem};
 
-use bwmap::Planning;
+use bwmap::Plan;
 use entries::Own;
 use ids::{AllocId, OnuId};
 use link::Allocs;
@@ -36,16 +36,16 @@ fn bench_own() -> Own
     Own {
         activation: Activation::Operation,
         onu: OnuId(5),
-        allocs: allocs,
+        allocs,
     }
 }
 
-fn records_of(answer: Planning) -> usize
+fn records_of(answer: Option<Plan>) -> usize
     ensures { result ≡ records_of_lem answer }
 {
     match answer {
-        Planning::Planned(p) => p.records,
-        Planning::PlanTooShort => 0,
+        Some(p) => p.records,
+        None => 0,
     }
 }
 

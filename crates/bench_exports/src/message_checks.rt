@@ -1,11 +1,12 @@
 // The messages of a frame, for a station in O5 with ONU-ID 5 and a key.
-ghost use Rattle.std.specs.Prelude.{◌≡◌, ◌≤◌};
+ghost use Rattle.std.specs.Prelude.{◌≡◌};
 ghost use Rattle.messages.specs.Receiving.{receive_all, messages_in};
-ghost use Rattle.bench_exports.specs.Messages.{bench_station_lem, bench_key, one_if_lem, genuine_count, genuine_count_by};
+ghost use Rattle.bench_exports.specs.Messages.{bench_station_lem, bench_key, genuine_count, genuine_count_by};
 
 use cmac::Prepared;
 use ids::OnuId;
 use link::{Key, Link};
+use ploam::MESSAGE_OCTETS;
 use station::{Activation, Station};
 
 fn bench_station() -> Station
@@ -26,28 +27,20 @@ fn bench_station() -> Station
 pub extern "C" fn bench_messages(messages: &[u8]) -> u32
     ensures { result ≡ (receive_all bench_station_lem (messages_in messages.now)).link.delay }
 {
-    let s = messages::receive_all(bench_station(), messages);
-    let link = s.link;
-    link.delay
-}
-
-fn one_if(b: bool) -> usize
-    ensures { (result ≡ one_if_lem b) × (result ≤ 1) }
-{
-    if b { 1 } else { 0 }
+    messages::receive_all(bench_station(), messages).link.delay
 }
 
 fn count_genuine(usual: Prepared, installed: Prepared, messages: &[u8]) -> usize
     ensures { result ≡ genuine_count_by usual installed (messages_in messages.now) }
 {
-    let n = messages.len() / 48;
-    let mut sum: usize = 0;
-    let mut i: usize = 0;
-    while i < n {
-        let at = 48 * i;
-        let end = at + 48;
-        sum = sum + one_if(integrity::genuine(usual, installed, &messages[at..end]));
-        i += 1;
+    let mut sum = 0;
+    for i in 0..messages.len() / MESSAGE_OCTETS {
+        let at = MESSAGE_OCTETS * i;
+        sum += usize::from(integrity::genuine(
+            usual,
+            installed,
+            &messages[at..at + MESSAGE_OCTETS],
+        ));
     }
     sum
 }

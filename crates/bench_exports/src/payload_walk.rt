@@ -6,7 +6,8 @@ ghost use Rattle.bench_exports.specs.Ports.{bench_ports_lem, own_port};
 use ids::PortId;
 use ports::Ports;
 
-fn bench_ports() -> Ports
+#[inline(always)]
+pub(crate) fn bench_ports() -> Ports
     ensures { result ≡ bench_ports_lem }
 {
     Ports {
@@ -40,7 +41,5 @@ pub extern "C" fn bench_receive(memory: &mut [u8], deliveries: &mut [u8], frame:
         × (memory.new ≡ (receive_of bench_ports_lem own_port memory.old deliveries.old 0 frame.now).receiver.memory)
         × (deliveries.new ≡ (receive_of bench_ports_lem own_port memory.old deliveries.old 0 frame.now).receiver.deliveries) }
 {
-    let own = PortId(5);
-    let r = payload::receive(bench_ports(), own, memory, deliveries, 0, frame);
-    r.bytes
+    payload::receive(bench_ports(), PortId(5), memory, deliveries, 0, frame).bytes
 }

@@ -1,6 +1,6 @@
 -- A state that is read, and what each call then leaves, a case each.
 -- Assumes nothing.
-use mathlib.Core.Path.{◌≡◌, sym, ap, ◌∙◌}
+use mathlib.Core.Path.{◌≡◌, refl, sym, ap, ◌∙◌}
 use mathlib.Core.Bool.{Bool, true, false}
 use mathlib.Core.List.{List, [], ◌∷◌, ◌++◌, append-nil}
 use Prim.Native.Nat.{ℕ, ◌≤◌, ◌<◌}
@@ -9,7 +9,7 @@ use lib.Dec.{leb}
 use lib.ListN.{length, take, drop, drop_of_length-le}
 use lib.Seq.{take-length}
 use borrow.Author.Tests.{le-leb, lt-leb}
-use Rattle.xgem.specs.Reads.{Found, fields, unreadable, short}
+use Rattle.xgem.specs.Reads.{Found, fields, found_in}
 use Rattle.xgem.specs.Writes as writes
 use Rattle.answers.specs.declared.Answer.{Answer}
 use Rattle.station.specs.declared.Station.{Station}
@@ -28,27 +28,21 @@ use Rattle.engine.specs.declared.stretching.StretchPlace.{StretchPlace}
 use Rattle.frame.specs.Given.{Arrival, Lent}
 use Rattle.frame.specs.Frame.{FrameLeft, leaving, no_counts, frame_left}
 use Rattle.engine.specs.Stretch.{stretch_place_lem}
-use Rattle.layout.specs.declared.StateRead.{StateRead}
-use Rattle.layout.specs.declared.Contents.{Contents}
-use Rattle.layout.specs.declared.Contents.TheVariants.{Held, Unreadable, Short}
-use Rattle.layout.specs.Layout.{read_of, found, decoded, stored}
+use Rattle.std.specs.Prelude.{Result, Ok, Err}
+use Rattle.xgem.specs.declared.ReadError.{ReadError}
+use Rattle.xgem.specs.declared.ReadError.TheVariants.{Unreadable, Short}
+use Rattle.layout.specs.Layout.{read_of, decoded, stored}
 use Rattle.layout.proofs.RoundTrips.{read_stored}
-use Rattle.boundary.specs.Calls.{StateLeft, by, asked, in_range_on, key_left}
+use Rattle.boundary.specs.Calls.{StateLeft, by, unread_answer, asked, in_range_on, key_left}
 use Rattle.boundary.specs.Frames.{BuffersLeft, PlaceLeft, answer_by_lem, opened_by, counted, after_frame, refused_frame, frame_by, placed, place_by}
 use Rattle.boundary.specs.Writers.{Target, written}
 
-module _ (b : List ℕ) (r : StateRead) (e : r ≡ read_of b) where
-  as_read : decoded b ≡ found r.contents r.station
-  as_read = ap (λ (x : StateRead). found x.contents x.station) (sym e)
+module _ (b : List ℕ) (r : Result Station ReadError) (e : r ≡ read_of b) where
+  pub is-held : (s : Station) → r ≡ Ok s → decoded b ≡ fields s
+  is-held s h = ap found_in (sym e ∙ h)
 
-  pub is-held : r.contents ≡ Held → decoded b ≡ fields r.station
-  is-held h = as_read ∙ ap (λ (k : Contents). found k r.station) h
-
-  pub is_unreadable : r.contents ≡ Unreadable → decoded b ≡ unreadable
-  is_unreadable h = as_read ∙ ap (λ (k : Contents). found k r.station) h
-
-  pub is-short : r.contents ≡ Short → decoded b ≡ short
-  is-short h = as_read ∙ ap (λ (k : Contents). found k r.station) h
+  pub is_unread : (x : ReadError) → r ≡ Err x → decoded b ≡ found_in (Err x)
+  is_unread x h = ap found_in (sym e ∙ h)
 
 -- ---- the calls on a state alone
 
@@ -62,11 +56,9 @@ module _ (b : List ℕ) (call : Station → Outcome) where
       ∙ ap (λ (z : Outcome). record { answer = answer_number z.answer; state = stored z.station b }) eo
       ∙ sym (ap (λ (f : Found Station). by f call b) ed)
 
-  pub call_unreadable : decoded b ≡ unreadable → ◌≡◌ {A = StateLeft} (record { answer = 1; state = b }) (by (decoded b) call b)
-  call_unreadable ed = sym (ap (λ (f : Found Station). by f call b) ed)
-
-  pub call_short : decoded b ≡ short → ◌≡◌ {A = StateLeft} (record { answer = 3; state = b }) (by (decoded b) call b)
-  call_short ed = sym (ap (λ (f : Found Station). by f call b) ed)
+  pub call_unread : (x : ReadError) (n : ℕ) → decoded b ≡ found_in (Err x) → n ≡ answer_number (unread_answer x) → ◌≡◌ {A = StateLeft} (record { answer = n; state = b }) (by (decoded b) call b)
+  call_unread Unreadable n ed en = ap (λ (k : ℕ). record { answer = k; state = b }) en ∙ sym (ap (λ (f : Found Station). by f call b) ed)
+  call_unread Short n ed en = ap (λ (k : ℕ). record { answer = k; state = b }) en ∙ sym (ap (λ (f : Found Station). by f call b) ed)
 
   -- nothing is written back where the station is as it was
   pub call_kept
@@ -82,13 +74,10 @@ module _ (b : List ℕ) where
   unfolding in_range_on
   range-held s n ed en = en ∙ sym (ap (λ (f : Found Station). (by f (asked true) b).answer) ed)
 
-  pub range_unreadable : decoded b ≡ unreadable → 1 ≡ in_range_on b
+  pub range_unread : (x : ReadError) (n : ℕ) → decoded b ≡ found_in (Err x) → n ≡ answer_number (unread_answer x) → n ≡ in_range_on b
   unfolding in_range_on
-  range_unreadable ed = sym (ap (λ (f : Found Station). (by f (asked true) b).answer) ed)
-
-  pub range_short : decoded b ≡ short → 3 ≡ in_range_on b
-  unfolding in_range_on
-  range_short ed = sym (ap (λ (f : Found Station). (by f (asked true) b).answer) ed)
+  range_unread Unreadable n ed en = en ∙ sym (ap (λ (f : Found Station). (by f (asked true) b).answer) ed)
+  range_unread Short n ed en = en ∙ sym (ap (λ (f : Found Station). (by f (asked true) b).answer) ed)
 
 module _ (s : Station) (key : List ℕ) where
   pub key_short : length key < key_octets → key_left s key ≡ asked false s
@@ -116,11 +105,9 @@ module _ (b f : List ℕ) (room : Bool) where
   opened-held s valid o n ed ev eo en =
       en ∙ ap (λ (z : Opening). answer_number (answer_by_lem z)) (eo ∙ opening_is s f valid room ev) ∙ sym (ap (λ (z : Found Station). opened_by z f room) ed)
 
-  pub opened_unreadable : decoded b ≡ unreadable → 1 ≡ opened_by (decoded b) f room
-  opened_unreadable ed = sym (ap (λ (z : Found Station). opened_by z f room) ed)
-
-  pub opened_short : decoded b ≡ short → 3 ≡ opened_by (decoded b) f room
-  opened_short ed = sym (ap (λ (z : Found Station). opened_by z f room) ed)
+  pub opened_unread : (x : ReadError) (n : ℕ) → decoded b ≡ found_in (Err x) → n ≡ answer_number (unread_answer x) → n ≡ opened_by (decoded b) f room
+  opened_unread Unreadable n ed en = en ∙ sym (ap (λ (z : Found Station). opened_by z f room) ed)
+  opened_unread Short n ed en = en ∙ sym (ap (λ (z : Found Station). opened_by z f room) ed)
 
 -- without it
 module _ (b f have : List ℕ) (need n : ℕ) (h : length have < need) (e : n ≡ opened_by (decoded b) f (leb need (length have))) where
@@ -138,21 +125,17 @@ module _ (b : List ℕ) (a : Arrival) (counts : List ℕ) (lent : Lent) where
       let made : ◌≡◌ {A = BuffersLeft} (record { answer = n; state = x; counts = k; lent = left }) (after_frame (leaving r left) b counts) = λ j. record { answer = en j; state = ex j; counts = ek j; lent = left } in
       made ∙ ap (λ (l : FrameLeft). after_frame l b counts) ef ∙ sym (ap (λ (z : Found Station). frame_by z b a counts lent) ed)
 
-  pub frame-unreadable
-      : (k : List ℕ) (c : Counts) → decoded b ≡ unreadable → c ≡ no_counts → k ≡ counted counts c
-      → ◌≡◌ {A = BuffersLeft} (record { answer = 1; state = b; counts = k; lent = lent }) (frame_by (decoded b) b a counts lent)
-  frame-unreadable k c ed ec ek =
+  pub frame-unread
+      : (x : ReadError) (n : ℕ) (k : List ℕ) (c : Counts) → decoded b ≡ found_in (Err x) → n ≡ answer_number (unread_answer x) → c ≡ no_counts → k ≡ counted counts c
+      → ◌≡◌ {A = BuffersLeft} (record { answer = n; state = b; counts = k; lent = lent }) (frame_by (decoded b) b a counts lent)
+  frame-unread x n k c ed en ec ek =
       let none : k ≡ counted counts no_counts = ek ∙ ap (counted counts) ec in
-      let made : ◌≡◌ {A = BuffersLeft} (record { answer = 1; state = b; counts = k; lent = lent }) (refused_frame 1 b counts lent) = λ j. record { answer = 1; state = b; counts = none j; lent = lent } in
-      made ∙ sym (ap (λ (z : Found Station). frame_by z b a counts lent) ed)
-
-  pub frame-short
-      : (k : List ℕ) (c : Counts) → decoded b ≡ short → c ≡ no_counts → k ≡ counted counts c
-      → ◌≡◌ {A = BuffersLeft} (record { answer = 3; state = b; counts = k; lent = lent }) (frame_by (decoded b) b a counts lent)
-  frame-short k c ed ec ek =
-      let none : k ≡ counted counts no_counts = ek ∙ ap (counted counts) ec in
-      let made : ◌≡◌ {A = BuffersLeft} (record { answer = 3; state = b; counts = k; lent = lent }) (refused_frame 3 b counts lent) = λ j. record { answer = 3; state = b; counts = none j; lent = lent } in
-      made ∙ sym (ap (λ (z : Found Station). frame_by z b a counts lent) ed)
+      let made : ◌≡◌ {A = BuffersLeft} (record { answer = n; state = b; counts = k; lent = lent }) (refused_frame (answer_number (unread_answer x)) b counts lent) = λ j. record { answer = en j; state = b; counts = none j; lent = lent } in
+      made ∙ by_reason x ∙ sym (ap (λ (z : Found Station). frame_by z b a counts lent) ed)
+    where
+      by_reason : (y : ReadError) → refused_frame (answer_number (unread_answer y)) b counts lent ≡ frame_by (found_in (Err y)) b a counts lent
+      by_reason Unreadable = refl
+      by_reason Short = refl
 
 module _ (b f : List ℕ) (k : ℕ) (place : List ℕ) where
   pub place-held
@@ -164,17 +147,16 @@ module _ (b f : List ℕ) (k : ℕ) (place : List ℕ) where
       ∙ ap (λ (z : StretchPlace). placed (answer_number z.answer) place z.at z.bytes) ep
       ∙ sym (ap (λ (z : Found Station). place_by z f k place) ed)
 
-  pub place-unreadable
-      : (x : List ℕ) → decoded b ≡ unreadable → x ≡ writes.put place (0 ∷ (0 ∷ [])) → ◌≡◌ {A = PlaceLeft} (record { answer = 1; place = x }) (place_by (decoded b) f k place)
-  place-unreadable x ed ex =
-      let made : ◌≡◌ {A = PlaceLeft} (record { answer = 1; place = x }) (placed 1 place 0 0) = λ j. record { answer = 1; place = ex j } in
-      made ∙ sym (ap (λ (z : Found Station). place_by z f k place) ed)
-
-  pub place_short
-      : (x : List ℕ) → decoded b ≡ short → x ≡ writes.put place (0 ∷ (0 ∷ [])) → ◌≡◌ {A = PlaceLeft} (record { answer = 3; place = x }) (place_by (decoded b) f k place)
-  place_short x ed ex =
-      let made : ◌≡◌ {A = PlaceLeft} (record { answer = 3; place = x }) (placed 3 place 0 0) = λ j. record { answer = 3; place = ex j } in
-      made ∙ sym (ap (λ (z : Found Station). place_by z f k place) ed)
+  pub place-unread
+      : (y : ReadError) (n : ℕ) (x : List ℕ) → decoded b ≡ found_in (Err y) → n ≡ answer_number (unread_answer y) → x ≡ writes.put place (0 ∷ (0 ∷ []))
+      → ◌≡◌ {A = PlaceLeft} (record { answer = n; place = x }) (place_by (decoded b) f k place)
+  place-unread y n x ed en ex =
+      let made : ◌≡◌ {A = PlaceLeft} (record { answer = n; place = x }) (placed (answer_number (unread_answer y)) place 0 0) = λ j. record { answer = en j; place = ex j } in
+      made ∙ by_reason y ∙ sym (ap (λ (z : Found Station). place_by z f k place) ed)
+    where
+      by_reason : (y : ReadError) → placed (answer_number (unread_answer y)) place 0 0 ≡ place_by (found_in (Err y)) f k place
+      by_reason Unreadable = refl
+      by_reason Short = refl
 
 -- ---- the writers
 

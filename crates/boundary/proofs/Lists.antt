@@ -1,12 +1,16 @@
 -- The calls that fill a lent list, a case each.
 -- Assumes nothing.
-use mathlib.Core.Path.{◌≡◌, sym, ap, ◌∙◌}
+use mathlib.Core.Path.{◌≡◌, refl, sym, ap, ◌∙◌}
 use mathlib.Core.List.{List, [], ◌∷◌}
 use Prim.Native.Nat.{ℕ, ◌≤◌, ◌<◌}
 use borrow.Author.Tests.{le-leb, lt-leb}
 use lib.Dec.{leb}
 use lib.ListN.{length}
-use Rattle.xgem.specs.Reads.{Found, fields, unreadable, short}
+use Rattle.std.specs.Prelude.{Err}
+use Rattle.xgem.specs.declared.ReadError.{ReadError}
+use Rattle.xgem.specs.declared.ReadError.TheVariants.{Unreadable, Short}
+use Rattle.xgem.specs.Reads.{Found, fields, found_in}
+use Rattle.boundary.specs.Calls.{unread_answer}
 use Rattle.xgem.specs.Writes.{put}
 use Rattle.station.specs.declared.Station.{Station}
 use Rattle.answers.specs.Answers.{answer_number}
@@ -35,10 +39,13 @@ module _ (b f : List ℕ) (call : Station → Listing) (list counts : List ℕ) 
         let made : ◌≡◌ {A = ListLeft} (record { answer = n; list = l.list; counts = k }) (listed l counts) = λ j. record { answer = en j; list = l.list; counts = ek j } in
         counted-by _ (made ∙ ap (λ (z : Listing). listed z counts) el ∙ sym (ap (λ (x : Found Station). list_by x call list counts) ed))
 
-    pub list-unreadable : (k : List ℕ) → decoded b ≡ unreadable → k ≡ put counts (0 ∷ []) → ◌≡◌ {A = ListLeft} (record { answer = 1; list = list; counts = k }) (list_on b f call list counts)
-    list-unreadable k ed ek =
-        counted-by _ (ap (λ (l : List ℕ). record { answer = 1; list = list; counts = l }) ek ∙ sym (ap (λ (x : Found Station). list_by x call list counts) ed))
-
-    pub list-short : (k : List ℕ) → decoded b ≡ short → k ≡ put counts (0 ∷ []) → ◌≡◌ {A = ListLeft} (record { answer = 3; list = list; counts = k }) (list_on b f call list counts)
-    list-short k ed ek =
-        counted-by _ (ap (λ (l : List ℕ). record { answer = 3; list = list; counts = l }) ek ∙ sym (ap (λ (x : Found Station). list_by x call list counts) ed))
+    pub list-unread
+        : (x : ReadError) (n : ℕ) (k : List ℕ) → decoded b ≡ found_in (Err x) → n ≡ answer_number (unread_answer x) → k ≡ put counts (0 ∷ [])
+        → ◌≡◌ {A = ListLeft} (record { answer = n; list = list; counts = k }) (list_on b f call list counts)
+    list-unread x n k ed en ek =
+        let made : ◌≡◌ {A = ListLeft} (record { answer = n; list = list; counts = k }) (record { answer = answer_number (unread_answer x); list = list; counts = put counts (0 ∷ []) }) = λ j. record { answer = en j; list = list; counts = ek j } in
+        counted-by _ (made ∙ by_reason x ∙ sym (ap (λ (x : Found Station). list_by x call list counts) ed))
+      where
+        by_reason : (y : ReadError) → ◌≡◌ {A = ListLeft} (record { answer = answer_number (unread_answer y); list = list; counts = put counts (0 ∷ []) }) (list_by (found_in (Err y)) call list counts)
+        by_reason Unreadable = refl
+        by_reason Short = refl

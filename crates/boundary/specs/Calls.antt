@@ -1,8 +1,11 @@
 -- The calls that take and leave a state, over the octets of a lent buffer: each is the engine's call on the state that stands there.
 -- Assumes nothing.
 use Rattle.std.specs.Prelude.{ℕ, ◌≡◌, Bool, true, false, ◌&&◌, not, cond, List, leb, length, take}
+use Rattle.xgem.specs.declared.ReadError.{ReadError}
+use Rattle.xgem.specs.declared.ReadError.TheVariants.{Unreadable, Short}
 use Rattle.xgem.specs.Reads.{Found, fields, unreadable, short}
 use Rattle.station.specs.declared.Station.{Station}
+use Rattle.answers.specs.declared.Answer.{Answer}
 use Rattle.answers.specs.declared.Answer.TheVariants.{Done, StateOutOfRange, BufferTooShort}
 use Rattle.answers.specs.Answers.{answer_number}
 use Rattle.station.specs.Limits.{serial_octets_lem, registration_octets_lem}
@@ -32,6 +35,11 @@ abbrev pub by : Found Station → (Station → Outcome) → List ℕ → StateLe
 by (fields s) call b = record { answer = answer_number (call s).answer; state = stored (call s).station b }
 by unreadable call b = refused (answer_number StateOutOfRange) b
 by short call b = refused (answer_number BufferTooShort) b
+
+-- the answer where no state was read
+abbrev pub unread_answer : ReadError → Answer
+unread_answer Unreadable = StateOutOfRange
+unread_answer Short = BufferTooShort
 
 -- 1, "state out of range", comes before 3, "a buffer too short", for a call whose own buffer has room or not
 abbrev pub asked : Bool → Station → Outcome

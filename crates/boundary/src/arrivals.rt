@@ -9,13 +9,8 @@ ghost use Rattle.boundary.specs.Frames.{BuffersAre, PlaceIs, count_numbers, plac
 use super::states;
 use downstream::Opening;
 use frame::Counts;
-use layout::Contents;
 
 const DONE: u8 = answers::DONE;
-
-const STATE_OUT_OF_RANGE: u8 = answers::STATE_OUT_OF_RANGE;
-
-const BUFFER_TOO_SHORT: u8 = answers::BUFFER_TOO_SHORT;
 
 const COUNTS: usize = 3;
 
@@ -53,16 +48,9 @@ fn answer_by(o: Opening) -> u8
 pub(crate) fn opened(state: &[u8], frame: &[u8], have: usize, need: usize) -> u8
     ensures { result ≡ opened_by (decoded state.now) frame.now (leb need have) }
 {
-    let read = layout::read_state(state);
-    let contents = read.contents;
-    let s = read.station;
-    match contents {
-        Contents::Held => {
-            let valid = engine::in_range(s);
-            answer_by(downstream::open(valid, frame, need <= have))
-        }
-        Contents::Unreadable => STATE_OUT_OF_RANGE,
-        Contents::Short => BUFFER_TOO_SHORT,
+    match layout::read_state(state) {
+        Ok(s) => { answer_by(downstream::open(engine::in_range(s), frame, need <= have)) }
+        Err(error) => states::unread(error),
     }
 }
 
@@ -82,25 +70,15 @@ pub fn lingbarrow_frame(
     if counts.len() < COUNTS {
         return opened(state, frame, counts.len(), COUNTS);
     }
-    let read = layout::read_state(state);
-    let contents = read.contents;
-    let s = read.station;
-    match contents {
-        Contents::Held => {
+    match layout::read_state(state) {
+        Ok(s) => {
             let r = engine::frame(s, memory, frame, random_delay, plan, replies, deliveries);
-            let written = r.counts;
-            put_counts(counts, written);
-            let answer = r.answer;
-            let next = r.station;
-            states::put_back(answer, next, state)
+            put_counts(counts, r.counts);
+            states::put_back(r.answer, r.station, state)
         }
-        Contents::Unreadable => {
+        Err(error) => {
             put_counts(counts, Counts::none());
-            STATE_OUT_OF_RANGE
-        }
-        Contents::Short => {
-            put_counts(counts, Counts::none());
-            BUFFER_TOO_SHORT
+            states::unread(error)
         }
     }
 }
@@ -112,23 +90,15 @@ pub fn lingbarrow_stretch(state: &[u8], frame: &[u8], k: usize, place: &mut [usi
     if place.len() < PLACE {
         return opened(state, frame, place.len(), PLACE);
     }
-    let read = layout::read_state(state);
-    let contents = read.contents;
-    let s = read.station;
-    match contents {
-        Contents::Held => {
+    match layout::read_state(state) {
+        Ok(s) => {
             let p = engine::stretch_place(s, frame, k);
-            let answer = p.answer;
             put_place(place, p.at, p.bytes);
-            answer.number()
+            p.answer.number()
         }
-        Contents::Unreadable => {
+        Err(error) => {
             put_place(place, 0, 0);
-            STATE_OUT_OF_RANGE
-        }
-        Contents::Short => {
-            put_place(place, 0, 0);
-            BUFFER_TOO_SHORT
+            states::unread(error)
         }
     }
 }

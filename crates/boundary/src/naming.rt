@@ -2,12 +2,7 @@
 ghost use Rattle.std.specs.Prelude.{◌≡◌};
 ghost use Rattle.boundary.specs.Lists.{ListIs, why_dark_on};
 
-use super::{arrivals, counting};
-use layout::Contents;
-
-const STATE_OUT_OF_RANGE: u8 = answers::STATE_OUT_OF_RANGE;
-
-const BUFFER_TOO_SHORT: u8 = answers::BUFFER_TOO_SHORT;
+use super::{arrivals, counting, states};
 
 // The name of every structure of the frame's map, by its number. The count is how many structures there are.
 pub fn lingbarrow_why_dark(state: &[u8], frame: &[u8], names: &mut [u8], counts: &mut [usize]) -> u8
@@ -16,23 +11,15 @@ pub fn lingbarrow_why_dark(state: &[u8], frame: &[u8], names: &mut [u8], counts:
     if counts.len() < counting::COUNTS {
         return arrivals::opened(state, frame, counts.len(), counting::COUNTS);
     }
-    let read = layout::read_state(state);
-    let contents = read.contents;
-    let s = read.station;
-    match contents {
-        Contents::Held => {
+    match layout::read_state(state) {
+        Ok(s) => {
             let p = engine::why_dark(s, frame, names);
-            let answer = p.answer;
             counting::put_count(counts, p.count);
-            answer.number()
+            p.answer.number()
         }
-        Contents::Unreadable => {
+        Err(error) => {
             counting::put_count(counts, 0);
-            STATE_OUT_OF_RANGE
-        }
-        Contents::Short => {
-            counting::put_count(counts, 0);
-            BUFFER_TOO_SHORT
+            states::unread(error)
         }
     }
 }

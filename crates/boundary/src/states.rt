@@ -1,17 +1,15 @@
 // The calls that take and leave nothing but a state.
 ghost use Rattle.std.specs.Prelude.{◌≡◌, ◌≤◌, length, take};
-ghost use Rattle.link.specs.Limits.{key_octets};
-ghost use Rattle.station.specs.Limits.{serial_octets_lem, registration_octets_lem};
 ghost use Rattle.answers.specs.Answers.{answer_number};
 ghost use Rattle.layout.specs.Layout.{stored};
-ghost use Rattle.boundary.specs.Calls.{StateIs, asked, in_range_on, lost_on, add_on, remove_on, key_on, power_on_in};
+ghost use Rattle.boundary.specs.Calls.{StateIs, unread_answer, asked, in_range_on, lost_on, add_on, remove_on, key_on, power_on_in};
 
 use answers::Answer;
 use ids::PortId;
-use layout::Contents;
 use link::KEY_OCTETS;
 use station::limits::{REGISTRATION_OCTETS, SERIAL_OCTETS};
 use station::{Outcome, Station};
+use xgem::ReadError;
 
 const DONE: u8 = answers::DONE;
 
@@ -19,30 +17,13 @@ const STATE_OUT_OF_RANGE: u8 = answers::STATE_OUT_OF_RANGE;
 
 const BUFFER_TOO_SHORT: u8 = answers::BUFFER_TOO_SHORT;
 
-fn serial_of(c: &[u8]) -> [u8; SERIAL_OCTETS]
-    requires { serial_octets_lem ≤ length c.now }
-    ensures { result ≡ take serial_octets_lem c.now }
+// The first N octets of a buffer.
+fn first<const N: usize>(c: &[u8]) -> [u8; N]
+    requires { N ≤ length c.now }
+    ensures { result ≡ take N c.now }
 {
-    let mut l = [0u8; SERIAL_OCTETS];
-    l.copy_from_slice(&c[0..SERIAL_OCTETS]);
-    l
-}
-
-fn key_of(c: &[u8]) -> [u8; KEY_OCTETS]
-    requires { key_octets ≤ length c.now }
-    ensures { result ≡ take key_octets c.now }
-{
-    let mut l = [0u8; KEY_OCTETS];
-    l.copy_from_slice(&c[0..KEY_OCTETS]);
-    l
-}
-
-fn registration_of(c: &[u8]) -> [u8; REGISTRATION_OCTETS]
-    requires { registration_octets_lem ≤ length c.now }
-    ensures { result ≡ take registration_octets_lem c.now }
-{
-    let mut l = [0u8; REGISTRATION_OCTETS];
-    l.copy_from_slice(&c[0..REGISTRATION_OCTETS]);
+    let mut l = [0u8; N];
+    l.copy_from_slice(&c[..N]);
     l
 }
 
@@ -57,9 +38,17 @@ pub(crate) fn put_back(answer: Answer, s: Station, state: &mut [u8]) -> u8
 fn settle(o: Outcome, state: &mut [u8]) -> u8
     ensures { (result ≡ answer_number o.answer) × (state.new ≡ stored o.station state.old) }
 {
-    let answer = o.answer;
-    let station = o.station;
-    put_back(answer, station, state)
+    put_back(o.answer, o.station, state)
+}
+
+// The answer where a buffer holds no state, by its number.
+pub(crate) fn unread(error: ReadError) -> u8
+    ensures { result ≡ answer_number (unread_answer error) }
+{
+    match error {
+        ReadError::Unreadable => STATE_OUT_OF_RANGE,
+        ReadError::Short => BUFFER_TOO_SHORT,
+    }
 }
 
 // 1 comes before 3, for a call whose own buffer has room or not.
@@ -76,19 +65,17 @@ fn asked(room: bool, s: Station) -> u8
 }
 
 // A station that is powered on, in O1 with nothing held.
+#[tactic(auto, unfolding(crate::specs::Calls::power_on_in), using(crate::proofs::Laws::powered))]
 pub fn lingbarrow_power_on(state: &mut [u8], serial: &[u8], registration: &[u8]) -> u8
     ensures { StateIs result state.new (power_on_in state.old serial.now registration.now) }
 {
-    if state.len() < layout::STATE_BYTES {
+    if state.len() < layout::STATE_BYTES
+        || serial.len() < SERIAL_OCTETS
+        || registration.len() < REGISTRATION_OCTETS
+    {
         return BUFFER_TOO_SHORT;
     }
-    if serial.len() < SERIAL_OCTETS {
-        return BUFFER_TOO_SHORT;
-    }
-    if registration.len() < REGISTRATION_OCTETS {
-        return BUFFER_TOO_SHORT;
-    }
-    let s = Station::power_on(serial_of(serial), registration_of(registration));
+    let s = Station::power_on(first(serial), first(registration));
     layout::write_state(s, state);
     DONE
 }
@@ -97,13 +84,9 @@ pub fn lingbarrow_power_on(state: &mut [u8], serial: &[u8], registration: &[u8])
 pub fn lingbarrow_in_range(state: &[u8]) -> u8
     ensures { result ≡ in_range_on state.now }
 {
-    let read = layout::read_state(state);
-    let contents = read.contents;
-    let s = read.station;
-    match contents {
-        Contents::Held => asked(true, s),
-        Contents::Unreadable => STATE_OUT_OF_RANGE,
-        Contents::Short => BUFFER_TOO_SHORT,
+    match layout::read_state(state) {
+        Ok(s) => asked(true, s),
+        Err(error) => unread(error),
     }
 }
 
@@ -111,58 +94,40 @@ pub fn lingbarrow_in_range(state: &[u8]) -> u8
 pub fn lingbarrow_lost(state: &mut [u8]) -> u8
     ensures { StateIs result state.new (lost_on state.old) }
 {
-    let read = layout::read_state(state);
-    let contents = read.contents;
-    let s = read.station;
-    match contents {
-        Contents::Held => settle(engine::lost(s), state),
-        Contents::Unreadable => STATE_OUT_OF_RANGE,
-        Contents::Short => BUFFER_TOO_SHORT,
+    match layout::read_state(state) {
+        Ok(s) => settle(engine::lost(s), state),
+        Err(error) => unread(error),
     }
 }
 
 pub fn lingbarrow_add_port(state: &mut [u8], port: u16) -> u8
     ensures { StateIs result state.new (add_on state.old port) }
 {
-    let read = layout::read_state(state);
-    let contents = read.contents;
-    let s = read.station;
-    let id = PortId(port);
-    match contents {
-        Contents::Held => settle(host::add_port(s, id), state),
-        Contents::Unreadable => STATE_OUT_OF_RANGE,
-        Contents::Short => BUFFER_TOO_SHORT,
+    match layout::read_state(state) {
+        Ok(s) => settle(host::add_port(s, PortId(port)), state),
+        Err(error) => unread(error),
     }
 }
 
 pub fn lingbarrow_remove_port(state: &mut [u8], port: u16) -> u8
     ensures { StateIs result state.new (remove_on state.old port) }
 {
-    let read = layout::read_state(state);
-    let contents = read.contents;
-    let s = read.station;
-    let id = PortId(port);
-    match contents {
-        Contents::Held => settle(host::remove_port(s, id), state),
-        Contents::Unreadable => STATE_OUT_OF_RANGE,
-        Contents::Short => BUFFER_TOO_SHORT,
+    match layout::read_state(state) {
+        Ok(s) => settle(host::remove_port(s, PortId(port)), state),
+        Err(error) => unread(error),
     }
 }
 
 pub fn lingbarrow_give_key(state: &mut [u8], key: &[u8]) -> u8
     ensures { StateIs result state.new (key_on state.old key.now) }
 {
-    let read = layout::read_state(state);
-    let contents = read.contents;
-    let s = read.station;
-    match contents {
-        Contents::Held => {
+    match layout::read_state(state) {
+        Ok(s) => {
             if key.len() < KEY_OCTETS {
                 return asked(false, s);
             }
-            settle(host::give_key(s, key_of(key)), state)
+            settle(host::give_key(s, first(key)), state)
         }
-        Contents::Unreadable => STATE_OUT_OF_RANGE,
-        Contents::Short => BUFFER_TOO_SHORT,
+        Err(error) => unread(error),
     }
 }

@@ -18,13 +18,11 @@ fn written_number(answer: Answer) -> u8
     answer.number()
 }
 
+#[tactic(auto, unfolding(crate::specs::Writers::hlend_in))]
 pub fn lingbarrow_write_hlend(bwmap: u32, ploam: u32, target: &mut [u8]) -> u8
     ensures { ◌≡◌ {A = Target} (record { answer = result; target = target.new }) (hlend_in bwmap ploam target.old) }
 {
-    if 0xffff < bwmap {
-        return NOT_WRITTEN;
-    }
-    if 0xff < ploam {
+    if 0xffff < bwmap || 0xff < ploam {
         return NOT_WRITTEN;
     }
     let h = Hlend {
@@ -34,6 +32,7 @@ pub fn lingbarrow_write_hlend(bwmap: u32, ploam: u32, target: &mut [u8]) -> u8
     written_number(xgtc::hlend::write_hlend(h, target))
 }
 
+#[tactic(auto, unfolding(crate::specs::Writers::allocation_in))]
 pub fn lingbarrow_write_allocation(
     alloc: u32,
     dbru: u32,
@@ -46,30 +45,18 @@ pub fn lingbarrow_write_allocation(
 ) -> u8
     ensures { ◌≡◌ {A = Target} (record { answer = result; target = target.new }) (allocation_in alloc dbru ploamu start grant fwi profile target.old) }
 {
-    if 2 <= dbru {
+    if 2 <= dbru
+        || 2 <= ploamu
+        || 2 <= fwi
+        || 0xffff < alloc
+        || 0xffff < start
+        || 0xffff < grant
+        || 0xff < profile
+    {
         return NOT_WRITTEN;
     }
-    if 2 <= ploamu {
-        return NOT_WRITTEN;
-    }
-    if 2 <= fwi {
-        return NOT_WRITTEN;
-    }
-    if 0xffff < alloc {
-        return NOT_WRITTEN;
-    }
-    if 0xffff < start {
-        return NOT_WRITTEN;
-    }
-    if 0xffff < grant {
-        return NOT_WRITTEN;
-    }
-    if 0xff < profile {
-        return NOT_WRITTEN;
-    }
-    let id = AllocId(alloc as u16);
     let a = Allocation {
-        alloc: id,
+        alloc: AllocId(alloc as u16),
         dbru: dbru == 1,
         ploamu: ploamu == 1,
         start: start as u16,
@@ -80,6 +67,7 @@ pub fn lingbarrow_write_allocation(
     written_number(xgtc::allocation::write_allocation(a, target))
 }
 
+#[tactic(auto, unfolding(crate::specs::Writers::xgem_frame_in))]
 pub fn lingbarrow_write_xgem_frame(
     key: u32,
     port: u32,
@@ -90,20 +78,13 @@ pub fn lingbarrow_write_xgem_frame(
 ) -> u8
     ensures { ◌≡◌ {A = Target} (record { answer = result; target = target.new }) (xgem_frame_in key port options last sdu.now target.old) }
 {
-    if 2 <= last {
+    if 2 <= last || 0xff < key || 0xffff < port {
         return NOT_WRITTEN;
     }
-    if 0xff < key {
-        return NOT_WRITTEN;
-    }
-    if 0xffff < port {
-        return NOT_WRITTEN;
-    }
-    let id = PortId(port as u16);
     let x = XgemHeader {
         pli: 0,
         key: key as u8,
-        port: id,
+        port: PortId(port as u16),
         options: options,
         last: last == 1,
     };

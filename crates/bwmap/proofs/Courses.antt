@@ -2,7 +2,7 @@
 -- Assumes nothing.
 use Prim.Native.Nat.{ℕ, zero, suc, ◌+◌, ◌-◌, ◌≤◌, ◌<◌}
 use mathlib.Core.Path.{◌≡◌, ◌∙◌, refl, sym, ap, ap₂}
-use mathlib.Core.List.{List, [], ◌∷◌, ◌++◌}
+use mathlib.Core.List.{List, [], ◌∷◌, ◌++◌, append_assoc}
 use mathlib.Core.Bool.{Bool, true, false, cond}
 use native.Mathlib.Omega.{arith}
 use native.Mathlib.Numerals.{add-one}
@@ -36,21 +36,19 @@ use Rattle.bwmap.specs.Courses.{left, past, excess, behind, ended, told, to_tell
 use Rattle.bwmap.specs.declared.names.Course.{Course}
 use Rattle.bwmap.proofs.Laws.{rest_cons, rest_nil}
 use Rattle.bwmap.proofs.Steps.{sets_append, length-standings}
+use borrow.Rule.Slice.PartMut.{put_mid}
+use Rattle.std.proofs.lemmas.List.{drop-drop, length-replicate}
+use Rattle.std.proofs.lemmas.List.Edits.{sets-eq}
 use Rattle.bwmap.proofs.Called.{left_nil, left-apart, left_head}
 
 -- ---- one name over and over
 
-module _ (at k count name : ℕ) (p : List ℕ) where
-  pub fill_step : (q : List ℕ) → k < count → q ≡ set p (at + k) name → sets q (at + (k + 1)) (replicate (count - (k + 1)) name) ≡ sets p (at + k) (replicate (count - k) name)
-  fill_step q h e =
-      let d : count - k ≡ suc (count - (k + 1)) = omega arith in
-      let f : at + (k + 1) ≡ suc (at + k) = omega arith in
-      rw (e, d, f)
-
-  pub fill_done : count ≤ k → p ≡ sets p (at + k) (replicate (count - k) name)
-  fill_done h =
-      let d : count - k ≡ 0 = omega arith in
-      rw d
+pub filled
+    : (at count k n name : ℕ) (p part : List ℕ) → at + count ≤ length p → k ≡ count → n ≡ count → part ≡ replicate n name
+    → put_mid at k p part ≡ sets p at (replicate count name)
+filled at count k n name p part h ek en e =
+    let r : at + length (replicate count name) ≤ length p = simp length-replicate h in
+    rw (e, ek, en, sets-eq (replicate count name) p at r, length-replicate count name, ← drop-drop count at p, append_assoc)
 
 -- ---- names and their numbers
 
@@ -94,18 +92,6 @@ length-verdicts around v (suc k) (More a ∷ l) = go (ltb (suc k) entries_a_burs
         → length (name_numbers (verdicts_of around v (cond b (joins ∷ roles (suc (suc k)) l) (alone Seventeenth ∷ roles 0 l)))) ≡ suc (length l)
     go true p q = ap suc p
     go false p q = ap suc q
-
-pub excess_open : (k : ℕ) → 0 < k → name_number (excess k) ≡ name_number Seventeenth
-excess_open zero h =
-    let z : ⊥ = omega arith in
-    absurd z
-excess_open (suc k) h = refl
-
-pub excess_none : (k : ℕ) → k ≤ 0 → name_number (excess k) ≡ name_number ContinuingNothing
-excess_none zero h = refl
-excess_none (suc k) h =
-    let z : ⊥ = omega arith in
-    absurd z
 
 -- an entry of ours that continues and goes no series on stands by itself
 unjoined : (k : ℕ) (a : Allocation) (l : List Standing) → (0 < k → 15 < k) → roles k (More a ∷ l) ≡ alone (excess k) ∷ roles 0 l

@@ -3,10 +3,11 @@
 use Prim.Native.Nat.{ℕ, zero, suc, ◌+◌, ◌-◌, ◌*◌, ◌≤◌, ◌<◌, ◌^◌}
 use mathlib.Core.Path.{◌≡◌, ◌∙◌, refl, sym, ap, ap₂}
 use mathlib.Core.List.{List, [], ◌∷◌}
-use mathlib.Core.Bool.{true, false}
+use mathlib.Core.Bool.{Bool, true, false}
 use native.Mathlib.Omega.{arith}
 use lib.ListN.{length}
 use lib.Seq.{sets}
+use Rattle.std.specs.Int.{from_bool}
 use Rattle.xgtc.specs.declared.allocation.Allocation.{Allocation}
 use Rattle.entries.specs.declared.Own.{Own}
 use Rattle.entries.specs.declared.Verdict.{Verdict}
@@ -26,6 +27,11 @@ use Rattle.series.proofs.Judged.{planned_facts}
 use Rattle.series.proofs.Opens.{goes_on_facts, full_or_none, fits_facts, unfit, more_words}
 use Rattle.bwmap.proofs.Laws.{rest_nil, pass-apart, pass-more, stop_end, stop_full, stop-head, stop-apart, go_on, tally-step, tally-done}
 use Rattle.bwmap.proofs.Steps.{head_low, count_is, judged_so, pass-series, plan-series}
+
+-- a mark of 1
+pub marked : (b : Bool) (x : ℕ) → x ≡ from_bool b → (x ≡ mark b 1) × (x ≤ 1)
+marked true x e = (e, omega (arith, e))
+marked false x e = (e, omega (arith, e))
 
 -- ---- one entry further
 

@@ -8,6 +8,7 @@ use native.Mathlib.Omega.{arith}
 use native.Mathlib.Nat.{add-zero, zero-add, sub-zero}
 use lib.ListN.{length, drop}
 use lib.Seq.{sets, sets-eq}
+use Rattle.std.specs.Prelude.{Some}
 use Rattle.xgtc.specs.declared.allocation.Allocation.{Allocation}
 use Rattle.entries.specs.declared.Own.{Own}
 use Rattle.entries.specs.declared.Standing.TheVariants.{Head}
@@ -23,7 +24,6 @@ use Rattle.plan.specs.Plan.{series_numbers, numbers, entries_in, records, messag
 use Rattle.bwmap.specs.Plan.{PlanLeft, counted}
 use Rattle.bwmap.specs.Turns.{rest, Run, tally, Finished, finished, to_come, starting, Small}
 use Rattle.bwmap.specs.declared.Walk.{Walk}
-use Rattle.bwmap.specs.declared.Planning.TheVariants.{Planned as PlannedAnswer}
 use Rattle.series.proofs.Runs.{run_length, series-drop}
 use Rattle.series.proofs.Judged.{planned_full}
 use Rattle.plan.proofs.Lengths.{length-series, length-numbers}
@@ -149,8 +149,8 @@ module _ (own : Own) (m p : List ℕ) (w : Walk) where
 pub finish
     : (p q : List ℕ) (w : Walk) (c over : ℕ) (l : List Series) → Small w → plan_numbers ≤ length p → finished q w [] ≡ finished p (starting c) l → over ≡ carried_over_lem w.around.end
     → ◌≡◌ {A = PlanLeft}
-    (record { answer = PlannedAnswer (record { records = w.records; bursts = w.around.bursts; messages = w.messages; end = w.around.end; carried = over }); plan = q })
-    (record { answer = PlannedAnswer (counted c l); plan = written l p })
+    (record { answer = Some (record { records = w.records; bursts = w.around.bursts; messages = w.messages; end = w.around.end; carried = over }); plan = q })
+    (record { answer = Some (counted c l); plan = written l p })
 finish p q w c over l small room e ho =
     let hr : w.records ≡ records l = sym (add-zero w.records) ∙ ap (λ (o : Finished). o.records) e ∙ zero-add (records l) in
     let hb : w.around.bursts ≡ length l = sym (add-zero w.around.bursts) ∙ ap (λ (o : Finished). o.bursts) e ∙ zero-add (length l) in
@@ -159,7 +159,7 @@ finish p q w c over l small room e ho =
     let hc : over ≡ carried_over_lem (last_end c l) = ho ∙ ap carried_over_lem he in
     let fits : 0 + length (numbers l) ≤ length p = omega (arith, length-numbers l, small.few, small.room) in
     let hq : q ≡ written l p = ap (λ (o : Finished). o.plan) e ∙ sets-eq (numbers l) p 0 fits ∙ ap (λ (k : ℕ). numbers l ++ drop k p) (zero-add (length (numbers l))) in
-    λ i. record { answer = PlannedAnswer (record { records = hr i; bursts = hb i; messages = hm i; end = he i; carried = hc i }); plan = hq i }
+    λ i. record { answer = Some (record { records = hr i; bursts = hb i; messages = hm i; end = he i; carried = hc i }); plan = hq i }
 
 pub from_start : (own : Own) (m p : List ℕ) (c : ℕ) → to_come own m p (starting c) ≡ finished p (starting c) (planned_of own m c)
 from_start own m p c = rw sub-zero
@@ -173,8 +173,8 @@ silent_none own m i (suc j) h = rw (silent-apart own (entry_at m i) h) (silent_n
 pub silent-plan
     : (own : Own) (m p : List ℕ) (c end over : ℕ) → silent own.activation ≡ true → end ≡ c → over ≡ carried_over_lem end
     → ◌≡◌ {A = PlanLeft}
-    (record { answer = PlannedAnswer (record { records = 0; bursts = 0; messages = 0; end = end; carried = over }); plan = p })
-    (record { answer = PlannedAnswer (counted c (planned_of own m c)); plan = written (planned_of own m c) p })
+    (record { answer = Some (record { records = 0; bursts = 0; messages = 0; end = end; carried = over }); plan = p })
+    (record { answer = Some (counted c (planned_of own m c)); plan = written (planned_of own m c) p })
 silent-plan own m p c end over h e o =
     let n : planned_of own m c ≡ [] = ap (planned (outset c)) (silent_none own m 0 (entry_count m) h) in
     rw (n, o, e)

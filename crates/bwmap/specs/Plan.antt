@@ -1,16 +1,14 @@
 -- The plan of a map: what the walk answers, and what the lent plan then holds.
 -- Assumes nothing.
-use Rattle.std.specs.Prelude.{ℕ, ◌≡◌, cond, List, leb, length}
+use Rattle.std.specs.Prelude.{None, Option, Some, ℕ, ◌≡◌, cond, List, leb, length}
 use Rattle.entries.specs.declared.Own.{Own}
 use Rattle.plan.specs.Limits.{plan_numbers}
 use Rattle.plan.specs.Plan.{records, messages, written}
 use Rattle.series.specs.Series.{Series, planned_of, last_end, carried_over_lem}
 use Rattle.bwmap.specs.declared.Plan.{Plan}
-use Rattle.bwmap.specs.declared.Planning.{Planning}
-use Rattle.bwmap.specs.declared.Planning.TheVariants.{Planned, PlanTooShort}
 
 pub record PlanLeft : Type 0 where
-  pub answer : Planning
+  pub answer : Option Plan
   pub plan : List ℕ
 
 abbrev pub counted : ℕ → List Series → Plan
@@ -27,9 +25,9 @@ counted carried l =
 abbrev pub plan_of : Own → List ℕ → ℕ → List ℕ → PlanLeft
 plan_of own m carried plan =
     cond (leb plan_numbers (length plan))
-    (record { answer = Planned (counted carried (planned_of own m carried)); plan = written (planned_of own m carried) plan })
-    (record { answer = PlanTooShort; plan = plan })
+    (record { answer = Some (counted carried (planned_of own m carried)); plan = written (planned_of own m carried) plan })
+    (record { answer = None; plan = plan })
 
 -- the whole contract of the walk
-abbrev pub MapLeaves : Own → List ℕ → ℕ → List ℕ → Planning → List ℕ → Type 0
+abbrev pub MapLeaves : Own → List ℕ → ℕ → List ℕ → Option Plan → List ℕ → Type 0
 MapLeaves own m carried plan answer left = record { answer = answer; plan = left } ≡ plan_of own m carried plan

@@ -1,6 +1,7 @@
 -- What the turns of the walk's loops come to. Nothing public speaks of these.
 -- Assumes nothing.
-use Rattle.std.specs.Prelude.{true, false, ℕ, zero, suc, ◌+◌, ◌-◌, ◌*◌, ◌≤◌, ◌<◌, ◌≡◌, List, [], ◌∷◌, length}
+use Rattle.std.specs.Prelude.{None, Option, Some, true, false, ℕ, zero, suc, ◌+◌, ◌-◌, ◌*◌, ◌≤◌, ◌<◌, ◌≡◌, List, [], ◌∷◌, length}
+use Rattle.bwmap.specs.declared.search.Ended.{Ended}
 use Rattle.std.proofs.lemmas.List.Edits.{sets}
 use Rattle.xgem.specs.Reads.{Found, fields, unreadable, short}
 use Rattle.xgtc.specs.declared.allocation.Allocation.{Allocation}
@@ -15,8 +16,6 @@ use Rattle.series.specs.Series.{Series, entry_at, entry_count, standings_from, r
 use Rattle.plan.specs.Plan.{numbers, records, messages}
 use Rattle.series.specs.Opens.{closed}
 use Rattle.series.specs.declared.Open.{Open}
-use Rattle.bwmap.specs.declared.search.Next.{Next}
-use Rattle.bwmap.specs.declared.search.Next.TheVariants.{Until, Nowhere}
 use Rattle.bwmap.specs.declared.Walk.{Walk}
 
 -- the entries from the i-th on
@@ -61,9 +60,9 @@ pub record Reached (own : Own) (m : List ℕ) (around : Around) (from i : ℕ) (
   pub fit : is_planned_lem (judged around s.start s.words) ≡ true
   pub next : planned around (series_of (rest own m running.at)) ≡ planned around (series_of (rest own m from))
 
-abbrev pub NextPlanned : Own → List ℕ → Around → ℕ → Next → Type 0
-NextPlanned own m around from (Until i s) = Reached own m around from i s
-NextPlanned own m around from Nowhere = planned around (series_of (rest own m from)) ≡ []
+abbrev pub NextPlanned : Own → List ℕ → Around → ℕ → Option Ended → Type 0
+NextPlanned own m around from (Some e) = Reached own m around from e.until e.series
+NextPlanned own m around from None = planned around (series_of (rest own m from)) ≡ []
 
 -- ---- the entries of a series as they are written
 

@@ -14,7 +14,6 @@ ghost use Rattle.bwmap.specs.Plan.{MapLeaves};
 ghost use Rattle.bwmap.specs.Names.{NamesAre};
 
 use entries::{Own, STRUCTURE_OCTETS};
-use search::Next;
 use series::Around;
 use station::limits::UPSTREAM_WORDS;
 
@@ -32,19 +31,6 @@ pub struct Plan {
     pub carried: u16,
 }
 
-#[derive(Clone, Copy)]
-pub enum Planning {
-    Planned(Plan),
-    PlanTooShort,
-}
-
-// How many structures have a name.
-#[derive(Clone, Copy)]
-pub enum Naming {
-    Named(usize),
-    ListTooShort,
-}
-
 // How far a walk has come: the next entry, and what is planned of those before it.
 #[derive(Clone, Copy)]
 pub struct Walk {
@@ -58,10 +44,7 @@ fn carried_over(end: usize) -> u16
     requires { end ≤ 65535 }
     ensures { result ≡ carried_over_lem end }
 {
-    if end < UPSTREAM_WORDS {
-        return 0;
-    }
-    (end - UPSTREAM_WORDS) as u16
+    end.saturating_sub(UPSTREAM_WORDS) as u16
 }
 
 // The next series that is planned, written; or none, and then the walk is at its end.
@@ -71,23 +54,24 @@ fn turn(map: &[u8], own: Own, w: Walk, plan: &mut [u16]) -> Walk
 {
     let before = w.around;
     match search::next_planned(map, own, w.at, before) {
-        Next::Until(next, s) => {
-            let at = next - s.entries;
+        Some(ended) => {
+            let s = ended.series;
+            let at = ended.until - s.entries;
             let more = s.entries - 1;
             let h = records::allocation_at(map, at);
             let place = plan::NUMBERS_A_RECORD * w.records;
             records::write_series(map, at + 1, more, h, plan, place);
             Walk {
-                at: next,
+                at: ended.until,
                 records: w.records + (more + 1),
-                messages: w.messages + records::mark(h.ploamu, 1),
+                messages: w.messages + usize::from(h.ploamu),
                 around: Around {
                     end: s.start + s.words,
                     bursts: before.bursts + 1,
                 },
             }
         }
-        Next::Nowhere => Walk {
+        None => Walk {
             at: map.len() / STRUCTURE_OCTETS,
             records: w.records,
             messages: w.messages,
@@ -106,14 +90,14 @@ fn walk_map(map: &[u8], own: Own, carried: u16, plan: &mut [u16]) -> Walk
         records: 0,
         messages: 0,
         around: Around {
-            end: search::long(carried),
+            end: usize::from(carried),
             bursts: 0,
         },
     };
     let n = map.len() / STRUCTURE_OCTETS;
     while w.at < n {
-        let before = w.around;
-        if series::BURSTS_A_FRAME <= before.bursts {
+        // with this test in the loop's condition, which was tried, a foreign entry took 4.8 % more instructions than before, not at most 3 %
+        if series::BURSTS_A_FRAME <= w.around.bursts {
             return w;
         }
         w = turn(map, own, w, plan);
@@ -121,48 +105,47 @@ fn walk_map(map: &[u8], own: Own, carried: u16, plan: &mut [u16]) -> Walk
     w
 }
 
-// The plan of a map: records of four numbers at the start of the lent plan, the rest of which keeps its content.
-pub fn plan_map(map: &[u8], own: Own, carried: u16, plan: &mut [u16]) -> Planning
+// The plan of a map: records of four numbers at the start of the lent plan, the rest of which keeps its content. None where the
+// plan is too short, and then all of it keeps its content.
+pub fn plan_map(map: &[u8], own: Own, carried: u16, plan: &mut [u16]) -> Option<Plan>
     ensures { MapLeaves own map.now carried plan.old result plan.new }
 {
     if plan.len() < plan::PLAN_NUMBERS {
-        return Planning::PlanTooShort;
+        return None;
     }
-    let activation = own.activation;
-    if activation.is_silent() {
-        let end = search::long(carried);
-        return Planning::Planned(Plan {
+    if own.activation.is_silent() {
+        let end = usize::from(carried);
+        return Some(Plan {
             records: 0,
             bursts: 0,
             messages: 0,
-            end: end,
+            end,
             carried: carried_over(end),
         });
     }
     let w = walk_map(map, own, carried, plan);
-    let last = w.around;
-    Planning::Planned(Plan {
+    Some(Plan {
         records: w.records,
-        bursts: last.bursts,
+        bursts: w.around.bursts,
         messages: w.messages,
-        end: last.end,
-        carried: carried_over(last.end),
+        end: w.around.end,
+        carried: carried_over(w.around.end),
     })
 }
 
-// The name of every structure of a map, at the start of the lent list, the rest of which keeps its content.
-pub fn name_map(map: &[u8], own: Own, carried: u16, names: &mut [u8]) -> Naming
+// The name of every structure of a map, at the start of the lent list, the rest of which keeps its content: how many have one. None
+// where the list is too short, and then all of it keeps its content.
+pub fn name_map(map: &[u8], own: Own, carried: u16, names: &mut [u8]) -> Option<usize>
     ensures { NamesAre own map.now carried names.old result names.new }
 {
     let n = map.len() / STRUCTURE_OCTETS;
     if names.len() < n {
-        return Naming::ListTooShort;
+        return None;
     }
-    let activation = own.activation;
-    if activation.is_silent() {
+    if own.activation.is_silent() {
         names::fill(names, 0, n, entries::SILENT);
-        return Naming::Named(n);
+        return Some(n);
     }
     names::name_entries(map, own, carried, names);
-    Naming::Named(n)
+    Some(n)
 }

@@ -25,11 +25,7 @@ pub(crate) fn fill(names: &mut [u8], at: usize, count: usize, name: u8)
     requires { at + count ≤ length names.old }
     ensures { names.new ≡ sets names.old at (replicate count name) }
 {
-    let mut k: usize = 0;
-    while k < count {
-        names[at + k] = name;
-        k += 1;
-    }
+    names[at..at + count].fill(name);
 }
 
 // A series ends before the i-th entry, and each of its entries has its name. What is around the next one.
@@ -40,16 +36,16 @@ fn name_series(around: Around, s: Open, names: &mut [u8], i: usize) -> Around
     let verdict = series::judge(around, s.start, s.words);
     fill(names, i - s.entries, s.entries, verdict.number());
     if verdict.is_planned() {
-        return Around {
+        Around {
             end: s.start + s.words,
             bursts: around.bursts + 1,
-        };
+        }
+    } else {
+        around
     }
-    around
 }
 
-// The series that is open, where one is, ends before the i-th entry. The test stands apart from the work: most entries end none, and the
-// compiler merges only what is small into the walk's loop.
+// The series that is open, where one is, ends before the i-th entry. The test stands apart from the work: most entries end none.
 fn end_series(around: Around, s: Open, names: &mut [u8], i: usize) -> Around
     requires { Modest s × (s.entries ≤ i) × (i ≤ length names.old) }
     ensures { (result ≡ behind around s) × (names.new ≡ ended names.old i around s) }
@@ -65,12 +61,10 @@ fn name_alone(w: Course, names: &mut [u8], i: usize, name: u8) -> Course
     requires { Steady w i × (i < length names.old) }
     ensures { (result ≡ record { around = behind w.around w.series; series = closed }) × (names.new ≡ set (ended names.old i w.around w.series) i name) }
 {
-    let around = w.around;
-    let s = w.series;
-    let next = end_series(around, s, names, i);
+    let around = end_series(w.around, w.series, names, i);
     names[i] = name;
     Course {
-        around: next,
+        around,
         series: series::closed(),
     }
 }
@@ -81,18 +75,10 @@ fn excess(s: Open) -> u8
     ensures { result ≡ name_number (excess s.entries) }
 {
     if 0 < s.entries {
-        return entries::SEVENTEENTH;
+        entries::SEVENTEENTH
+    } else {
+        entries::CONTINUING_NOTHING
     }
-    entries::CONTINUING_NOTHING
-}
-
-// The i-th entry of a map.
-fn read_at(map: &[u8], own: Own, i: usize) -> Standing
-    requires { i < entry_count map.now }
-    ensures { result ≡ standing own (entry_at map.now i) }
-{
-    let at = STRUCTURE_OCTETS * i;
-    entries::naming::standing_ahead(own, &map[at..])
 }
 
 // The i-th entry. One that opens a series or goes it on has its name when the series ends.
@@ -100,24 +86,23 @@ fn name_entry(map: &[u8], own: Own, i: usize, w: Course, names: &mut [u8]) -> Co
     requires { (i < entry_count map.now) × (entry_count map.now ≤ length names.old) × Steady w i }
     ensures { Steady result (i + 1) × (named_from own map.now names.new (i + 1) result ≡ named_from own map.now names.old i w) }
 {
-    let around = w.around;
-    let s = w.series;
-    match read_at(map, own, i) {
+    match search::read_at(map, own, i) {
         Standing::Head(h) => {
-            let next = end_series(around, s, names, i);
+            let around = end_series(w.around, w.series, names, i);
             Course {
-                around: next,
+                around,
                 series: series::opened(h),
             }
         }
         Standing::More(a) => {
-            if series::goes_on(s) {
-                return Course {
-                    around: around,
-                    series: search::joined(s, a),
-                };
+            if series::goes_on(w.series) {
+                Course {
+                    around: w.around,
+                    series: search::joined(w.series, a),
+                }
+            } else {
+                name_alone(w, names, i, excess(w.series))
             }
-            name_alone(w, names, i, excess(s))
         }
         Standing::Apart(verdict) => name_alone(w, names, i, verdict.number()),
     }
@@ -131,17 +116,13 @@ pub(crate) fn name_entries(map: &[u8], own: Own, carried: u16, names: &mut [u8])
     let n = map.len() / STRUCTURE_OCTETS;
     let mut w = Course {
         around: Around {
-            end: search::long(carried),
+            end: usize::from(carried),
             bursts: 0,
         },
         series: series::closed(),
     };
-    let mut i: usize = 0;
-    while i < n {
+    for i in 0..n {
         w = name_entry(map, own, i, w, names);
-        i += 1;
     }
-    let around = w.around;
-    let s = w.series;
-    end_series(around, s, names, i);
+    end_series(w.around, w.series, names, n);
 }

@@ -4,18 +4,11 @@ ghost use Rattle.std.proofs.lemmas.List.Edits.{sets};
 ghost use Rattle.series.specs.Series.{entry_count};
 ghost use Rattle.bwmap.specs.Turns.{no_allocation_lem, allocation_at_lem, allocations_from};
 ghost use Rattle.plan.specs.Limits.{numbers_a_record};
-ghost use Rattle.plan.specs.Records.{mark};
 ghost use Rattle.plan.specs.Plan.{more_numbers, series_numbers};
 
 use entries::STRUCTURE_OCTETS;
 use ids::AllocId;
-use xgtc::allocation::{Allocation, AllocationRead};
-
-pub(crate) fn mark(set: bool, weight: usize) -> usize
-    ensures { (result ≡ mark set weight) × (result ≤ weight) }
-{
-    if set { weight } else { 0 }
-}
+use xgtc::allocation::Allocation;
 
 fn no_allocation() -> Allocation
     ensures { result ≡ no_allocation_lem }
@@ -38,9 +31,8 @@ pub(crate) fn allocation_at(map: &[u8], i: usize) -> Allocation
 {
     let at = STRUCTURE_OCTETS * i;
     match entries::reading::read_entry(&map[at..]) {
-        AllocationRead::Fields(a) => a,
-        AllocationRead::Unreadable => no_allocation(),
-        AllocationRead::Short => no_allocation(),
+        Ok(a) => a,
+        Err(_) => no_allocation(),
     }
 }
 
@@ -49,8 +41,7 @@ fn write_more(map: &[u8], from: usize, count: usize, h: Allocation, plan: &mut [
     requires { (from + count ≤ entry_count map.now) × (at + numbers_a_record * count ≤ length plan.old) }
     ensures { plan.new ≡ sets plan.old at (more_numbers h (allocations_from map.now from count)) }
 {
-    let mut k: usize = 0;
-    while k < count {
+    for k in 0..count {
         let a = allocation_at(map, from + k);
         plan::write_record(
             plan,
@@ -59,7 +50,6 @@ fn write_more(map: &[u8], from: usize, count: usize, h: Allocation, plan: &mut [
             plan::more_flags(h, a),
             h.start,
         );
-        k += 1;
     }
 }
 

@@ -9,21 +9,16 @@ use entries::{Own, STRUCTURE_OCTETS, Standing};
 use series::{Around, Open};
 use xgtc::allocation::Allocation;
 
-// The next series that is planned, read until the entry before which it ends.
+// A series, and the entry before which it ends.
 #[derive(Clone, Copy)]
-pub enum Next {
-    Until(usize, Open),
-    Nowhere,
-}
-
-pub(crate) fn long(x: u16) -> usize
-    ensures { (result ≡ x) × (result < 65536) }
-{
-    x as usize
+pub struct Ended {
+    pub until: usize,
+    pub series: Open,
 }
 
 // The i-th entry of a map.
-fn read_at(map: &[u8], own: Own, i: usize) -> Standing
+#[inline(always)]
+pub(crate) fn read_at(map: &[u8], own: Own, i: usize) -> Standing
     requires { i < entry_count map.now }
     ensures { result ≡ standing own (entry_at map.now i) }
 {
@@ -38,51 +33,58 @@ pub(crate) fn joined(s: Open, a: Allocation) -> Open
     Open {
         entries: s.entries + 1,
         start: s.start,
-        words: s.words + long(a.grant),
+        words: s.words + usize::from(a.grant),
     }
 }
 
-// The next series from `from` on that is planned, with what is around it before. Each entry is
+// The next series from `from` on that is planned, if there is one, with what is around it before. Each entry is
 // read once, in one loop, and series that are passed over stay in it: most entries of a map are foreign.
-pub(crate) fn next_planned(map: &[u8], own: Own, from: usize, around: Around) -> Next
+pub(crate) fn next_planned(map: &[u8], own: Own, from: usize, around: Around) -> Option<Ended>
     requires { from ≤ entry_count map.now }
     ensures { NextPlanned own map.now around from result }
 {
     let n = map.len() / STRUCTURE_OCTETS;
     let mut s = series::closed();
-    let mut i = from;
-    while i < n {
+    for i in from..n {
         match read_at(map, own, i) {
             Standing::Head(h) => {
                 if series::fits(around, s) {
-                    return Next::Until(i, s);
+                    return Some(Ended {
+                        until: i,
+                        series: s,
+                    });
                 }
                 s = series::opened(h);
-                i += 1;
             }
             Standing::More(a) => {
                 if series::goes_on(s) {
                     s = joined(s, a);
-                    i += 1;
                 } else {
                     if series::fits(around, s) {
-                        return Next::Until(i, s);
+                        return Some(Ended {
+                            until: i,
+                            series: s,
+                        });
                     }
                     s = series::closed();
-                    i += 1;
                 }
             }
             Standing::Apart(_) => {
                 if series::fits(around, s) {
-                    return Next::Until(i, s);
+                    return Some(Ended {
+                        until: i,
+                        series: s,
+                    });
                 }
                 s = series::closed();
-                i += 1;
             }
         }
     }
     if series::fits(around, s) {
-        return Next::Until(i, s);
+        return Some(Ended {
+            until: n,
+            series: s,
+        });
     }
-    Next::Nowhere
+    None
 }

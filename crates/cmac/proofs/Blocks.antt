@@ -9,7 +9,7 @@ use native.Mathlib.Numerals.{add-one}
 use lib.ListN.{length, take, drop, replicate, length-drop}
 use lib.Seq.{length-take-le, take-length}
 use lib.Bits.{bit_xor, xor_comm}
-use borrow.Author.Tests.{lt-ltb, le-ltb}
+use borrow.Author.Tests.{lt-ltb}
 use Rattle.aes.specs.Cipher.{at}
 use Rattle.aes.specs.Words.{joined, words_of, added, no_words}
 use Rattle.aes.specs.OnWords.{cipher_on}

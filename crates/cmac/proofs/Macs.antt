@@ -1,6 +1,6 @@
 -- The CMAC on words under a prepared key is AES-CMAC under that key.
 -- Assumes nothing.
-use mathlib.Core.Path.{◌≡◌, ◌∙◌, refl, sym, ap, ap₂}
+use mathlib.Core.Path.{◌≡◌, ◌∙◌, refl, ap, ap₂}
 use mathlib.Core.Bool.{Bool, true, false, cond}
 use mathlib.Core.List.{List}
 use mathlib.Core.Logic.{⊎_elim}
@@ -9,7 +9,7 @@ use native.Mathlib.Nat.{eq-zero-or-pos}
 use native.Mathlib.Omega.{arith}
 use lib.Bits.{bit_xor, xor_zero_r}
 use lib.Dec.{ltb, eqb}
-use lib.ListN.{length, get_or, take}
+use lib.ListN.{length, take}
 use borrow.Author.Tests.{lt-ltb, le-ltb, eq-eqb, ne_eqb}
 use Rattle.aes.specs.Cipher.{at, add_round_key, aes128}
 use Rattle.aes.specs.Words.{octet0, octet1, octet2, octet3, octets_of, words_of, added, no_words, Octets, Four}
@@ -17,9 +17,8 @@ use Rattle.aes.specs.OnWords.{cipher_on}
 use Rattle.aes.specs.declared.Words.{Words}
 use Rattle.aes.proofs.Octets.{xor0, xor1, xor2, xor3, sixteen, added-octets, octets_words, octets-tabulate}
 use Rattle.aes.proofs.Ciphers.{on_words}
-use Rattle.cmac.specs.Mac.{rb, last_shifted_lem, doubled, subkey1, subkey2, padded_at, block_at, before, chained, last_block, cmac, cmac64}
+use Rattle.cmac.specs.Mac.{rb, doubled, subkey1, subkey2, padded_at, block_at, before, chained, last_block, cmac, cmac64}
 use Rattle.cmac.specs.Tags.{shifted_word, last_word, doubled_words, prepared_by, chained_by, last_block_by, tag_by, mac_by, mac64_by}
-use Rattle.cmac.specs.declared.Prepared.{Prepared}
 
 -- 2.3 on words and on octets
 shifted_octets : (x y : ℕ)

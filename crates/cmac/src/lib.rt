@@ -126,50 +126,27 @@ fn add_whole(x: Words, m: &[u8], j: usize) -> Words
 fn blocks_before(n: usize) -> usize
     ensures { result ≡ (n - 1) / 16 }
 {
-    if n == 0 { 0 } else { (n - 1) / 16 }
+    n.saturating_sub(1) / 16
 }
 
 fn add_last(key: Prepared, x: Words, m: &[u8], j: usize) -> Words
     requires { j + 16 < 2 ^ 64 }
     ensures { result ≡ added x (last_block_by key m.now j) }
 {
-    let whole = key.whole;
-    let padded = key.padded;
-    if m.len() == j + 16 {
-        add_block(aes::add(x, whole), m, j)
+    let subkey = if m.len() == j + 16 {
+        key.whole
     } else {
-        add_block(aes::add(x, padded), m, j)
-    }
+        key.padded
+    };
+    add_block(aes::add(x, subkey), m, j)
 }
 
-// Block i of each of n messages of `size` octets, which is not the last.
-fn add_whole_each(ms: &[u8], size: usize, i: usize, n: usize, xs: &mut [u32; 32])
-    requires { (n ≤ most_blocks) × (n * size ≤ length ms.now) × (i * 16 + 16 ≤ size) × (length xs.old ≡ 32) }
-    ensures { xs.new ≡ each n (λ j x. added x (words_of (block_at (message_of ms.now size j) (i * 16)))) xs.old }
+// Message j of those of `size` octets that stand one behind the other.
+fn message(ms: &[u8], size: usize, j: usize) -> &[u8]
+    requires { j * size + size ≤ length ms.now }
+    ensures { result.now ≡ message_of ms.now size j }
 {
-    let mut j: usize = 0;
-    while j < n {
-        let at = j * size;
-        let end = at + size;
-        let x = aes::block(xs, j);
-        aes::put(xs, j, add_whole(x, &ms[at..end], i * 16));
-        j += 1;
-    }
-}
-
-// The last one, which starts at octet `last`.
-fn add_last_each(key: Prepared, ms: &[u8], size: usize, last: usize, n: usize, xs: &mut [u32; 32])
-    requires { (n ≤ most_blocks) × (n * size ≤ length ms.now) × (last ≤ size) × (length xs.old ≡ 32) }
-    ensures { xs.new ≡ each n (λ j x. added x (last_block_by key (message_of ms.now size j) last)) xs.old }
-{
-    let mut j: usize = 0;
-    while j < n {
-        let at = j * size;
-        let end = at + size;
-        let x = aes::block(xs, j);
-        aes::put(xs, j, add_last(key, x, &ms[at..end], last));
-        j += 1;
-    }
+    &ms[j * size..j * size + size]
 }
 
 // The tags of `count` messages, eight at most, that stand one behind the other and share the length of the slice.
@@ -183,15 +160,20 @@ pub fn tags(key: Prepared, ms: &[u8], count: usize) -> [u32; 32]
     }
     let size = ms.len() / n;
     let before = blocks_before(size);
-    let k = key.key;
-    let mut i: usize = 0;
-    while i < before {
-        add_whole_each(ms, size, i, n, &mut xs);
-        aes::encipher(k, n, &mut xs);
-        i += 1;
+    for i in 0..before {
+        aes::on_each(
+            n,
+            &mut xs,
+            |j, x| add_whole(x, message(ms, size, j), i * 16),
+        );
+        aes::encipher(key.key, n, &mut xs);
     }
-    add_last_each(key, ms, size, before * 16, n, &mut xs);
-    aes::encipher(k, n, &mut xs);
+    aes::on_each(
+        n,
+        &mut xs,
+        |j, x| add_last(key, x, message(ms, size, j), before * 16),
+    );
+    aes::encipher(key.key, n, &mut xs);
     xs
 }
 
@@ -205,13 +187,10 @@ fn tag(key: Prepared, m: &[u8]) -> Words
 pub fn prepare(key: [u8; 16]) -> Prepared
     ensures { Ready key result }
 {
-    let k = aes::load(key);
-    let whole = doubled(aes::encipher_one(k, NO_WORDS));
-    Prepared {
-        key: k,
-        whole: whole,
-        padded: doubled(whole),
-    }
+    let key = aes::load(key);
+    let whole = doubled(aes::encipher_one(key, NO_WORDS));
+    let padded = doubled(whole);
+    Prepared { key, whole, padded }
 }
 
 pub fn mac(key: Prepared, m: &[u8]) -> [u8; 16]
@@ -224,16 +203,9 @@ pub fn mac(key: Prepared, m: &[u8]) -> [u8; 16]
 pub fn first_octets(w: Words) -> [u8; 8]
     ensures { result ≡ take 8 (octets_of w) }
 {
-    [
-        (w.a / 16777216 % 256) as u8,
-        (w.a / 65536 % 256) as u8,
-        (w.a / 256 % 256) as u8,
-        (w.a % 256) as u8,
-        (w.b / 16777216 % 256) as u8,
-        (w.b / 65536 % 256) as u8,
-        (w.b / 256 % 256) as u8,
-        (w.b % 256) as u8,
-    ]
+    let [a0, a1, a2, a3] = w.a.to_be_bytes();
+    let [b0, b1, b2, b3] = w.b.to_be_bytes();
+    [a0, a1, a2, a3, b0, b1, b2, b3]
 }
 
 pub fn mac64(key: Prepared, m: &[u8]) -> [u8; 8]

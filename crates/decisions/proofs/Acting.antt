@@ -2,16 +2,16 @@
 -- Assumes nothing.
 use mathlib.Core.Path.{◌≡◌, ◌∙◌, refl, sym, ap}
 use mathlib.Core.Bool.{Bool, true, false, cond, false≢true}
+use Rattle.std.specs.Prelude.{None, Option, Some}
+use Rattle.link.specs.declared.Owed.{Owed}
 use Rattle.ploam.specs.declared.Message.{Message}
 use Rattle.station.specs.declared.Station.{Station}
 use Rattle.link.specs.declared.Key.{Key}
 use Rattle.link.specs.Link.{no_key}
 use Rattle.effects.specs.declared.Change.{Change}
 use Rattle.effects.specs.declared.Change.TheVariants.{Keep, Identify, Range, Delay, AddAlloc, RemoveAlloc, Enter}
-use Rattle.effects.specs.declared.Debt.{Debt}
-use Rattle.effects.specs.declared.Debt.TheVariants.{Free, Owes}
 use Rattle.effects.specs.declared.Effect.{Effect}
-use Rattle.effects.specs.Effects.{ignored, is_ignored_lem, kept, free}
+use Rattle.effects.specs.Effects.{ignored, is_ignored_lem}
 use Rattle.decisions.specs.Decisions.{is_ours, effect_of, fitting, decision}
 use Rattle.effects.specs.Changes.{identify, range, set_delay_lem, apply_change_lem, apply_debt_lem, applied}
 use Rattle.decisions.specs.Acts.{act}
@@ -34,9 +34,9 @@ act_forged s m = go (is_ours s m)
     go true = refl
     go false = refl
 
-ignored_is : (c : Change) (d : Debt) → is_ignored_lem (record { change = c; debt = d }) ≡ true → record { change = c; debt = d } ≡ ignored
-ignored_is Keep Free e = refl
-ignored_is Keep (Owes answer) e = absurd (false≢true e)
+ignored_is : (c : Change) (d : Option Owed) → is_ignored_lem (record { change = c; debt = d }) ≡ true → record { change = c; debt = d } ≡ ignored
+ignored_is Keep None e = refl
+ignored_is Keep (Some answer) e = absurd (false≢true e)
 ignored_is (Identify onu) d e = absurd (false≢true e)
 ignored_is (Range delay) d e = absurd (false≢true e)
 ignored_is (Delay delay) d e = absurd (false≢true e)
@@ -72,9 +72,9 @@ module _ (Q : Key → Type 0) (none : Q no_key) where
   change_key s (RemoveAlloc id) q = q
   change_key s (Enter a) q = none
 
-  debt_key : (s : Station) (d : Debt) → Q s.link.key → Q (apply_debt_lem s d).link.key
-  debt_key s Free q = q
-  debt_key s (Owes answer) q = q
+  debt_key : (s : Station) (d : Option Owed) → Q s.link.key → Q (apply_debt_lem s d).link.key
+  debt_key s None q = q
+  debt_key s (Some answer) q = q
 
   pub applied_key : (s : Station) (e : Effect) → Q s.link.key → Q (applied s e).link.key
   unfolding applied

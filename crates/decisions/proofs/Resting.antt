@@ -5,6 +5,8 @@ use mathlib.Core.Path.{◌≡◌, refl}
 use mathlib.Core.Bool.{Bool, true, false, ◌&&◌, ◌||◌, not, cond, false≢true}
 use mathlib.Core.Logic.{◌⊎◌, inl, inr}
 use lib.Dec.{eqb, leb}
+use Rattle.std.specs.Prelude.{None, Option, Some, ℕ}
+use Rattle.link.specs.declared.Owed.{Owed}
 use Rattle.ids.specs.declared.OnuId.{OnuId}
 use Rattle.ids.specs.declared.AllocId.{AllocId}
 use Rattle.ids.specs.Ids.{assignable_onu, assignable_alloc}
@@ -24,17 +26,12 @@ use Rattle.station.specs.declared.Station.{Station}
 use Rattle.station.specs.States.{state_number, holds_identity_lem, o23, o4, o5, o7}
 use Rattle.effects.specs.declared.Change.{Change}
 use Rattle.effects.specs.declared.Change.TheVariants.{Keep, Identify, Range, Delay, AddAlloc, RemoveAlloc, Enter}
-use Rattle.effects.specs.declared.Debt.{Debt}
-use Rattle.effects.specs.declared.Debt.TheVariants.{Free, Owes}
 use Rattle.effects.specs.declared.Effect.{Effect}
-use Rattle.decisions.specs.declared.ranging.Target.{Target}
-use Rattle.decisions.specs.declared.ranging.Target.TheVariants.{To, Outside}
 use Rattle.effects.specs.Effects.{ignored, is_ignored_lem}
 use Rattle.effects.specs.Changes.{identify, range, set_delay_lem, apply_change_lem, apply_debt_lem, applied}
 use Rattle.decisions.specs.Ranging.{absolute, moved, answered, unanswered, ranging_time_lem}
-use Rattle.decisions.specs.Decisions.{assign_onu_id_lem, alloc_change_lem, assign_alloc_id_lem, request_registration_lem, deactivate, switch_off_lem, switch_on_lem, switched, disable, unknown_type_lem}
+use Rattle.decisions.specs.Decisions.{assign_onu_id_lem, alloc_change_lem, assign_alloc_id_lem, request_registration_lem, deactivate, switch_off_lem, switch_on_lem, switched, disable, unknown_type_lem, by_content_lem, is_broadcast, is_ours, effect_of, room, decision}
 use Rattle.ids.specs.Places.{is_held}
-use Rattle.decisions.specs.Decisions.{by_content_lem, is_broadcast, is_ours, effect_of, room, decision}
 use Rattle.decisions.specs.Acts.{act}
 use Rattle.decisions.proofs.Acting.{order_of_tests, act-ignored}
 
@@ -70,20 +67,20 @@ enters_resting (Enter a) = resting a
 unfoldable Leads : Effect → Type 0
 Leads e = enters_resting e.change ≡ true
 
-leads : (c : Change) (d : Debt) → enters_resting c ≡ true → Leads (record { change = c; debt = d })
+leads : (c : Change) (d : Option Owed) → enters_resting c ≡ true → Leads (record { change = c; debt = d })
 unfolding Leads
 leads c d e = e
 
 nowhere : Leads ignored
-nowhere = leads Keep Free refl
+nowhere = leads Keep None refl
 
-unanswered-leads : (to : Target) → Leads (unanswered to)
-unanswered-leads (To delay) = leads (Delay delay) Free refl
-unanswered-leads Outside = nowhere
+unanswered-leads : (to : Option ℕ) → Leads (unanswered to)
+unanswered-leads (Some delay) = leads (Delay delay) None refl
+unanswered-leads None = nowhere
 
-answered-leads : (to : Target) (seq : ℕ) → Leads (answered to seq)
-answered-leads (To delay) seq = leads (Delay delay) _ refl
-answered-leads Outside seq = leads Keep _ refl
+answered-leads : (to : Option ℕ) (seq : ℕ) → Leads (answered to seq)
+answered-leads (Some delay) seq = leads (Delay delay) _ refl
+answered-leads None seq = leads Keep _ refl
 
 alloc_leads : (allocs : Allocs) (seq : ℕ) (id : AllocId) (change : AllocChange) → Leads (alloc_change_lem allocs seq id change)
 alloc_leads allocs seq id Assign =
@@ -95,11 +92,11 @@ alloc_leads allocs seq id OtherChange = leads Keep _ refl
 
 off_leads : (a : Activation) → Leads (switch_off_lem a)
 unfolding switch_off_lem
-off_leads a = either Leads (holds_identity_lem a || eqb (state_number a) o23) _ _ (leads (Enter EmergencyStop) Free refl) nowhere
+off_leads a = either Leads (holds_identity_lem a || eqb (state_number a) o23) _ _ (leads (Enter EmergencyStop) None refl) nowhere
 
 on_leads : (a : Activation) → Leads (switch_on_lem a)
 unfolding switch_on_lem
-on_leads a = either Leads (eqb (state_number a) o7) _ _ (leads (Enter Initial) Free refl) nowhere
+on_leads a = either Leads (eqb (state_number a) o7) _ _ (leads (Enter Initial) None refl) nowhere
 
 switched-leads : (a : Activation) (own : Bool) (switch : Switch) → Leads (switched a own switch)
 switched-leads a own DisableOwn = either Leads own _ _ (off_leads a) nowhere
@@ -111,7 +108,7 @@ switched-leads a own OtherSwitch = nowhere
 assign_leads : (state : ℕ) (broadcast own : Bool) (onu : OnuId) → Leads (assign_onu_id_lem state broadcast own onu)
 unfolding assign_onu_id_lem
 assign_leads state broadcast own onu =
-    either Leads (broadcast && (eqb state o23 && (own && assignable_onu onu))) _ _ (leads (Identify onu) Free refl) nowhere
+    either Leads (broadcast && (eqb state o23 && (own && assignable_onu onu))) _ _ (leads (Identify onu) None refl) nowhere
 
 content_leads : (s : Station) (broadcast : Bool) (seq : ℕ) (c : Content) → Leads (by_content_lem s broadcast seq c)
 unfolding ranging_time_lem deactivate disable request_registration_lem assign_alloc_id_lem unknown_type_lem
@@ -124,7 +121,7 @@ content_leads s broadcast seq (RangingTime way amount) =
     (either Leads (eqb state o5 && not (absolute way)) _ _ (unanswered-leads to) nowhere)
     (either Leads (eqb state o5) _ _ (answered-leads to seq)
     (either Leads (eqb state o4 && absolute way) _ _ (leads (Range amount) _ refl) nowhere))
-content_leads s broadcast seq DeactivateOnuId = either Leads (holds_identity_lem s.activation) _ _ (leads (Enter Initial) Free refl) nowhere
+content_leads s broadcast seq DeactivateOnuId = either Leads (holds_identity_lem s.activation) _ _ (leads (Enter Initial) None refl) nowhere
 content_leads s broadcast seq (DisableSerialNumber switch serial) = either Leads broadcast _ _ (switched-leads s.activation _ switch) nowhere
 content_leads s broadcast seq RequestRegistration =
     either Leads (not broadcast && eqb (state_number s.activation) o5) _ _ (leads Keep _ refl) nowhere
@@ -151,12 +148,12 @@ stays_resting (Enter a) = resting a
 unfoldable Stays : Effect → Type 0
 Stays e = stays_resting e.change ≡ true
 
-stays : (c : Change) (d : Debt) → stays_resting c ≡ true → Stays (record { change = c; debt = d })
+stays : (c : Change) (d : Option Owed) → stays_resting c ≡ true → Stays (record { change = c; debt = d })
 unfolding Stays
 stays c d e = e
 
 still : Stays ignored
-still = stays Keep Free refl
+still = stays Keep None refl
 
 -- none of the states in which other messages act
 no_other
@@ -189,7 +186,7 @@ module _ (s : Station) (r : resting s.activation ≡ true) where
 
   on_stays : Stays (switch_on_lem s.activation)
   unfolding switch_on_lem
-  on_stays = either Stays (eqb (state_number s.activation) o7) _ _ (stays (Enter Initial) Free refl) still
+  on_stays = either Stays (eqb (state_number s.activation) o7) _ _ (stays (Enter Initial) None refl) still
 
   switched-stays : (own : Bool) (switch : Switch) → Stays (switched s.activation own switch)
   switched-stays own DisableOwn = either Stays own _ _ off_stays still
@@ -217,13 +214,13 @@ module _ (s : Station) (r : resting s.activation ≡ true) where
 
 -- ---- so of a message that acts
 
-debt_key : (s : Station) (d : Debt) → (apply_debt_lem s d).link.key ≡ s.link.key
-debt_key s Free = refl
-debt_key s (Owes answer) = refl
+debt_key : (s : Station) (d : Option Owed) → (apply_debt_lem s d).link.key ≡ s.link.key
+debt_key s None = refl
+debt_key s (Some answer) = refl
 
-debt_activation : (s : Station) (d : Debt) → (apply_debt_lem s d).activation ≡ s.activation
-debt_activation s Free = refl
-debt_activation s (Owes answer) = refl
+debt_activation : (s : Station) (d : Option Owed) → (apply_debt_lem s d).activation ≡ s.activation
+debt_activation s None = refl
+debt_activation s (Some answer) = refl
 
 change_forgets
     : (s : Station) (c : Change) → enters_resting c ≡ true

@@ -1,6 +1,7 @@
 -- The bullets of the paper's "Messages", in its order. States are given by their numbers.
 -- Assumes nothing.
-use Rattle.std.specs.Prelude.{ℕ, ◌≡◌, Bool, true, false, ◌&&◌, ◌||◌, not, cond, eqb, leb}
+use Rattle.std.specs.Prelude.{None, Option, Some, ℕ, Bool, true, ◌&&◌, ◌||◌, not, cond, eqb, leb}
+use Rattle.link.specs.declared.Owed.{Owed}
 use Rattle.ids.specs.declared.OnuId.{OnuId}
 use Rattle.ids.specs.declared.AllocId.{AllocId}
 use Rattle.ids.specs.Ids.{same_onu, broadcast_onu, assignable_onu, assignable_alloc}
@@ -25,8 +26,6 @@ use Rattle.link.specs.Limits.{added_allocs, most_owed}
 use Rattle.station.specs.States.{holds_identity_lem, state_number, o23, o5, o7}
 use Rattle.link.specs.Link.{alloc_place}
 use Rattle.effects.specs.declared.Change.TheVariants.{Keep, Identify, AddAlloc, RemoveAlloc, Enter}
-use Rattle.effects.specs.declared.Debt.{Debt}
-use Rattle.effects.specs.declared.Debt.TheVariants.{Free, Owes}
 use Rattle.effects.specs.declared.Effect.{Effect}
 use Rattle.effects.specs.Effects.{ignored, does, owes, answers}
 use Rattle.decisions.specs.Ranging.{ranging_time_lem}
@@ -113,9 +112,9 @@ unfoldable pub effect_of : Station → Message → Effect
 effect_of s m = by_content_lem s (is_broadcast m) m.seq m.content
 
 -- "an answer is needed and 8 are owed"
-abbrev pub room : Queue → Debt → Bool
-room owed Free = true
-room owed (Owes answer) = not (leb most_owed owed.count)
+abbrev pub room : Queue → Option Owed → Bool
+room owed None = true
+room owed (Some answer) = not (leb most_owed owed.count)
 
 abbrev pub fitting : Queue → Effect → Effect
 fitting owed e = cond (room owed e.debt) e ignored

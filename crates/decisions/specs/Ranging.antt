@@ -2,15 +2,13 @@
 -- result outside 0 to 2^32-1 changes nothing and owes 'parameter error'. Otherwise OK is owed. Broadcast: relative in O5
 -- only, owing nothing, out of range ignored."
 -- Assumes nothing.
-use Rattle.std.specs.Prelude.{ℕ, ◌+◌, ◌-◌, ◌^◌, Bool, true, false, ◌&&◌, not, cond, eqb, leb}
+use Rattle.std.specs.Prelude.{None, Option, Some, ℕ, ◌+◌, ◌-◌, Bool, true, false, ◌&&◌, not, cond, eqb, leb}
 use Rattle.ploam.specs.declared.Adjustment.{Adjustment}
 use Rattle.ploam.specs.declared.Adjustment.TheVariants.{Absolute, Add, Subtract}
 use Rattle.ploam.specs.declared.Completion.TheVariants.{Ok, ParameterError}
 use Rattle.station.specs.States.{o4, o5}
 use Rattle.effects.specs.declared.Change.TheVariants.{Keep, Range, Delay}
 use Rattle.effects.specs.declared.Effect.{Effect}
-use Rattle.decisions.specs.declared.ranging.Target.{Target}
-use Rattle.decisions.specs.declared.ranging.Target.TheVariants.{To, Outside}
 use Rattle.effects.specs.Effects.{ignored, does, answers}
 
 abbrev pub most_delay : ℕ
@@ -21,18 +19,18 @@ absolute Absolute = true
 absolute Add = false
 absolute Subtract = false
 
-abbrev pub moved : Adjustment → ℕ → ℕ → Target
-moved Absolute delay amount = To amount
-moved Add delay amount = cond (leb (delay + amount) most_delay) (To (delay + amount)) Outside
-moved Subtract delay amount = cond (leb amount delay) (To (delay - amount)) Outside
+abbrev pub moved : Adjustment → ℕ → ℕ → Option ℕ
+moved Absolute delay amount = Some amount
+moved Add delay amount = cond (leb (delay + amount) most_delay) (Some (delay + amount)) None
+moved Subtract delay amount = cond (leb amount delay) (Some (delay - amount)) None
 
-abbrev pub answered : Target → ℕ → Effect
-answered (To delay) seq = answers (Delay delay) Ok seq
-answered Outside seq = answers Keep ParameterError seq
+abbrev pub answered : Option ℕ → ℕ → Effect
+answered (Some delay) seq = answers (Delay delay) Ok seq
+answered None seq = answers Keep ParameterError seq
 
-abbrev pub unanswered : Target → Effect
-unanswered (To delay) = does (Delay delay)
-unanswered Outside = ignored
+abbrev pub unanswered : Option ℕ → Effect
+unanswered (Some delay) = does (Delay delay)
+unanswered None = ignored
 
 -- the states are given by their numbers
 unfoldable pub ranging_time_lem : ℕ → Bool → ℕ → ℕ → Adjustment → ℕ → Effect

@@ -3,39 +3,26 @@
 #![tactic(auto)]
 
 ghost use Rattle.std.specs.Prelude.{◌≡◌, Bool};
-ghost use Rattle.decisions.specs.Decisions.{same_serial_lem, assign_onu_id_lem, alloc_change_lem, assign_alloc_id_lem};
+ghost use Rattle.station.specs.States.{state_number};
+ghost use Rattle.decisions.specs.Decisions.{assign_onu_id_lem, alloc_change_lem, assign_alloc_id_lem};
 ghost use Rattle.decisions.specs.Decisions.{request_registration_lem, deactivate, switch_off_lem, switch_on_lem, switched, disable};
 ghost use Rattle.decisions.specs.Decisions.{unknown_type_lem, by_content_lem, fitting};
 ghost use Rattle.decisions.specs.Acts.{Decides};
 
 pub mod ranging;
 
-use effects::{Change, Debt, Effect, answers, does, ignored, owes};
+use effects::{Change, Effect, answers, does, ignored, owes};
 use ids::{AllocId, OnuId};
 use link::{Allocs, Queue, Response};
 use ploam::reading::serial_number;
-use ploam::{AllocChange, Completion, Content, Message, SerialNumber, Switch};
-use station::{Activation, O5, O7, O23, Station};
+use ploam::{AllocChange, Completion, Content, Message, Switch};
+use station::{Activation, Station};
 
-fn same_serial(a: SerialNumber, b: SerialNumber) -> bool
-    ensures { result ≡ same_serial_lem a b }
+#[tactic(auto, unfolding(crate::specs::Decisions::assign_onu_id_lem))]
+fn assign_onu_id(a: Activation, broadcast: bool, own: bool, onu: OnuId) -> Effect
+    ensures { result ≡ assign_onu_id_lem (state_number a) broadcast own onu }
 {
-    a.vendor == b.vendor && a.vssn == b.vssn
-}
-
-fn assign_onu_id(state: u8, broadcast: bool, own: bool, onu: OnuId) -> Effect
-    ensures { result ≡ assign_onu_id_lem state broadcast own onu }
-{
-    if !broadcast {
-        return ignored();
-    }
-    if state != O23 {
-        return ignored();
-    }
-    if !own {
-        return ignored();
-    }
-    if onu.is_assignable() {
+    if broadcast && matches!(a, Activation::SerialNumber) && own && onu.is_assignable() {
         return does(Change::Identify(onu));
     }
     ignored()
@@ -44,8 +31,7 @@ fn assign_onu_id(state: u8, broadcast: bool, own: bool, onu: OnuId) -> Effect
 fn alloc_change(allocs: Allocs, seq: u8, id: AllocId, change: AllocChange) -> Effect
     ensures { result ≡ alloc_change_lem allocs seq id change }
 {
-    let place = allocs.place(id);
-    let held = place.is_held();
+    let held = allocs.place(id).is_some();
     match change {
         AllocChange::Assign => {
             if held {
@@ -66,20 +52,18 @@ fn alloc_change(allocs: Allocs, seq: u8, id: AllocId, change: AllocChange) -> Ef
     }
 }
 
+#[tactic(auto, unfolding(crate::specs::Decisions::assign_alloc_id_lem))]
 fn assign_alloc_id(
-    state: u8,
+    a: Activation,
     broadcast: bool,
     allocs: Allocs,
     seq: u8,
     id: AllocId,
     change: AllocChange,
 ) -> Effect
-    ensures { result ≡ assign_alloc_id_lem state broadcast allocs seq id change }
+    ensures { result ≡ assign_alloc_id_lem (state_number a) broadcast allocs seq id change }
 {
-    if broadcast {
-        return ignored();
-    }
-    if state != O5 {
+    if broadcast || !a.is_operating() {
         return ignored();
     }
     if id.is_assignable() {
@@ -88,18 +72,17 @@ fn assign_alloc_id(
     answers(Change::Keep, Completion::ParameterError, seq)
 }
 
-fn request_registration(state: u8, broadcast: bool, seq: u8) -> Effect
-    ensures { result ≡ request_registration_lem state broadcast seq }
+#[tactic(auto, unfolding(crate::specs::Decisions::request_registration_lem))]
+fn request_registration(a: Activation, broadcast: bool, seq: u8) -> Effect
+    ensures { result ≡ request_registration_lem (state_number a) broadcast seq }
 {
-    if broadcast {
-        return ignored();
-    }
-    if state != O5 {
+    if broadcast || !a.is_operating() {
         return ignored();
     }
     owes(Change::Keep, Response::Registration, seq)
 }
 
+#[tactic(auto, unfolding(crate::specs::Decisions::deactivate))]
 fn deactivate(a: Activation) -> Effect
     ensures { result ≡ deactivate a }
 {
@@ -109,22 +92,21 @@ fn deactivate(a: Activation) -> Effect
     ignored()
 }
 
+#[tactic(auto, unfolding(crate::specs::Decisions::switch_off_lem))]
 fn switch_off(a: Activation) -> Effect
     ensures { result ≡ switch_off_lem a }
 {
-    if a.holds_identity() {
-        return does(Change::Enter(Activation::EmergencyStop));
-    }
-    if a.number() == O23 {
+    if a.holds_identity() || matches!(a, Activation::SerialNumber) {
         return does(Change::Enter(Activation::EmergencyStop));
     }
     ignored()
 }
 
+#[tactic(auto, unfolding(crate::specs::Decisions::switch_on_lem))]
 fn switch_on(a: Activation) -> Effect
     ensures { result ≡ switch_on_lem a }
 {
-    if a.number() == O7 {
+    if matches!(a, Activation::EmergencyStop) {
         return does(Change::Enter(Activation::Initial));
     }
     ignored()
@@ -152,18 +134,17 @@ fn switched(a: Activation, own: bool, switch: Switch) -> Effect
     }
 }
 
-fn unknown_type(state: u8, broadcast: bool, seq: u8) -> Effect
-    ensures { result ≡ unknown_type_lem state broadcast seq }
+#[tactic(auto, unfolding(crate::specs::Decisions::unknown_type_lem))]
+fn unknown_type(a: Activation, broadcast: bool, seq: u8) -> Effect
+    ensures { result ≡ unknown_type_lem (state_number a) broadcast seq }
 {
-    if broadcast {
-        return ignored();
-    }
-    if state != O5 {
+    if broadcast || !a.is_operating() {
         return ignored();
     }
     answers(Change::Keep, Completion::UnknownMessageType, seq)
 }
 
+#[tactic(auto, unfolding(crate::specs::Decisions::disable))]
 fn disable(a: Activation, broadcast: bool, own: bool, switch: Switch) -> Effect
     ensures { result ≡ disable a broadcast own switch }
 {
@@ -177,39 +158,22 @@ fn by_content(s: Station, broadcast: bool, seq: u8, content: Content) -> Effect
     ensures { result ≡ by_content_lem s broadcast seq content }
 {
     let a = s.activation;
-    let state = a.number();
-    let link = s.link;
-    let allocs = link.allocs;
-    let octets = s.serial;
+    let own = serial_number(s.serial);
     match content {
-        Content::Profile => ignored(),
-        Content::AssignOnuId(onu, serial) => {
-            assign_onu_id(
-                state,
-                broadcast,
-                same_serial(serial_number(octets), serial),
-                onu,
-            )
-        }
+        Content::Profile | Content::KeyControl | Content::SleepAllow => ignored(),
+        Content::AssignOnuId(onu, serial) => { assign_onu_id(a, broadcast, own == serial, onu) }
         Content::RangingTime(way, amount) => {
-            ranging::ranging_time(state, broadcast, link.delay, seq, way, amount)
+            ranging::ranging_time(a.number(), broadcast, s.link.delay, seq, way, amount)
         }
         Content::DeactivateOnuId => deactivate(a),
         Content::DisableSerialNumber(switch, serial) => {
-            disable(
-                a,
-                broadcast,
-                same_serial(serial_number(octets), serial),
-                switch,
-            )
+            disable(a, broadcast, own == serial, switch)
         }
-        Content::RequestRegistration => request_registration(state, broadcast, seq),
-        Content::AssignAllocId(id, change) => assign_alloc_id(
-            state, broadcast, allocs, seq, id, change,
-        ),
-        Content::KeyControl => ignored(),
-        Content::SleepAllow => ignored(),
-        Content::Unknown(_) => unknown_type(state, broadcast, seq),
+        Content::RequestRegistration => request_registration(a, broadcast, seq),
+        Content::AssignAllocId(id, change) => {
+            assign_alloc_id(a, broadcast, s.link.allocs, seq, id, change)
+        }
+        Content::Unknown(_) => unknown_type(a, broadcast, seq),
     }
 }
 
@@ -217,33 +181,20 @@ fn by_content(s: Station, broadcast: bool, seq: u8, content: Content) -> Effect
 fn fitting(owed: Queue, e: Effect) -> Effect
     ensures { result ≡ fitting owed e }
 {
-    let debt = e.debt;
-    match debt {
-        Debt::Free => e,
-        Debt::Owes(_) => {
-            if link::MOST_OWED <= owed.count {
-                return ignored();
-            }
-            e
-        }
+    if e.debt.is_some() && link::MOST_OWED <= owed.count {
+        return ignored();
     }
+    e
 }
 
 // What the message does to the station if it is genuine.
+#[tactic(auto, unfolding(crate::specs::Decisions::decision, crate::specs::Decisions::is_ours, crate::specs::Decisions::is_broadcast, crate::specs::Decisions::effect_of))]
 pub fn decide(s: Station, m: Message) -> Effect
     ensures { Decides s m result }
 {
-    let link = s.link;
-    let onu = link.onu;
-    let owed = link.owed;
-    let address = m.address;
-    let content = m.content;
-    let all = OnuId::broadcast();
-    if address.is(all) {
-        return fitting(owed, by_content(s, true, m.seq, content));
-    }
-    if address.is(onu) {
-        return fitting(owed, by_content(s, false, m.seq, content));
+    let broadcast = m.address == OnuId::broadcast();
+    if broadcast || m.address == s.link.onu {
+        return fitting(s.link.owed, by_content(s, broadcast, m.seq, m.content));
     }
     ignored()
 }

@@ -7,63 +7,43 @@ use effects::{Change, Effect, answers, does, ignored};
 use ploam::{Adjustment, Completion};
 use station::{O4, O5};
 
-// Where a delay goes: to a number of 32 bits, or outside.
-#[derive(Clone, Copy)]
-pub enum Target {
-    To(u32),
-    Outside,
-}
-
-const MOST_DELAY: u32 = 4294967295;
-
 fn is_absolute(way: Adjustment) -> bool
     ensures { result ≡ absolute way }
 {
-    match way {
-        Adjustment::Absolute => true,
-        Adjustment::Add => false,
-        Adjustment::Subtract => false,
-    }
+    matches!(way, Adjustment::Absolute)
 }
 
-fn moved(way: Adjustment, delay: u32, amount: u32) -> Target
+// Where a delay goes, if a number of 32 bits can say it.
+fn moved(way: Adjustment, delay: u32, amount: u32) -> Option<u32>
     ensures { result ≡ moved way delay amount }
 {
     match way {
-        Adjustment::Absolute => Target::To(amount),
-        Adjustment::Add => {
-            if amount <= MOST_DELAY - delay {
-                return Target::To(delay + amount);
-            }
-            Target::Outside
-        }
-        Adjustment::Subtract => {
-            if amount <= delay {
-                return Target::To(delay - amount);
-            }
-            Target::Outside
-        }
+        Adjustment::Absolute => Some(amount),
+        Adjustment::Add => delay.checked_add(amount),
+        Adjustment::Subtract => delay.checked_sub(amount),
     }
 }
 
-fn answered(to: Target, seq: u8) -> Effect
+fn answered(to: Option<u32>, seq: u8) -> Effect
     ensures { result ≡ answered to seq }
 {
     match to {
-        Target::To(delay) => answers(Change::Delay(delay), Completion::Ok, seq),
-        Target::Outside => answers(Change::Keep, Completion::ParameterError, seq),
+        Some(delay) => answers(Change::Delay(delay), Completion::Ok, seq),
+        None => answers(Change::Keep, Completion::ParameterError, seq),
     }
 }
 
-fn unanswered(to: Target) -> Effect
+fn unanswered(to: Option<u32>) -> Effect
     ensures { result ≡ unanswered to }
 {
     match to {
-        Target::To(delay) => does(Change::Delay(delay)),
-        Target::Outside => ignored(),
+        Some(delay) => does(Change::Delay(delay)),
+        None => ignored(),
     }
 }
 
+// What may not change: `ranging_time` is public, and its clause says the state by its number.
+#[tactic(auto, unfolding(crate::specs::Ranging::ranging_time_lem))]
 pub fn ranging_time(
     state: u8,
     broadcast: bool,
@@ -75,10 +55,7 @@ pub fn ranging_time(
     ensures { result ≡ ranging_time_lem state broadcast delay seq way amount }
 {
     if broadcast {
-        if state != O5 {
-            return ignored();
-        }
-        if is_absolute(way) {
+        if state != O5 || is_absolute(way) {
             return ignored();
         }
         return unanswered(moved(way, delay, amount));
@@ -86,10 +63,7 @@ pub fn ranging_time(
     if state == O5 {
         return answered(moved(way, delay, amount), seq);
     }
-    if state != O4 {
-        return ignored();
-    }
-    if is_absolute(way) {
+    if state == O4 && is_absolute(way) {
         return answers(Change::Range(amount), Completion::Ok, seq);
     }
     ignored()

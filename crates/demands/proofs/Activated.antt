@@ -11,6 +11,8 @@ use lib.ListN.{length, take, drop, replicate, length-append}
 use lib.Seq.{take_at, drop_at, take_all}
 use borrow.Author.Tests.{le-leb}
 use lib.Count.{ones_in}
+use Rattle.std.specs.Prelude.{None, Option, Some}
+use Rattle.ploam.specs.declared.Message.{Message}
 use Rattle.hec.specs.Reads.{word}
 use Rattle.hec.proofs.Compute.{computed32}
 use Rattle.bch.specs.Code.{remainder_from}
@@ -23,8 +25,6 @@ use Rattle.ploam.specs.Layout.{message_octets, covered_octets, address_of, type_
 use Rattle.integrity.specs.Integrity.{covered, mic_of, mic_right_lem, default_key_lem, by_default_lem, installed_key_lem, genuine}
 use Rattle.ploam.specs.Reading.{content_as, message_of, received}
 use Rattle.integrity.specs.declared.Direction.TheVariants.{Downstream}
-use Rattle.ploam.specs.declared.Received.{Received}
-use Rattle.ploam.specs.declared.Received.TheVariants.{Whole, Short}
 use Rattle.integrity.proofs.Signed.{mic_length, signed_right}
 use Rattle.station.specs.declared.Station.{Station}
 use Rattle.station.specs.declared.Activation.{Activation}
@@ -68,16 +68,16 @@ signed-genuine octets key h = go (by_default_lem Downstream (address_of (signed 
     go true = ap (mic_right_lem default_key_lem Downstream) (sym (append-nil (octets ++ mic_of default_key_lem Downstream octets))) ∙ signed_right default_key_lem Downstream octets [] h
     go false = ap (mic_right_lem default_key_lem Downstream) (sym (append-nil (octets ++ mic_of default_key_lem Downstream octets))) ∙ signed_right default_key_lem Downstream octets [] h
 
-signed_whole : (octets : List ℕ) → length octets ≡ covered_octets → received (signed octets) ≡ Whole (message_of (signed octets))
+signed_whole : (octets : List ℕ) → length octets ≡ covered_octets → received (signed octets) ≡ Some (message_of (signed octets))
 unfolding received
-signed_whole octets h = ap (λ (n : ℕ). cond (ltb n message_octets) Short (Whole (message_of (signed octets)))) (signed-length octets h)
+signed_whole octets h = ap (λ (n : ℕ). cond (ltb n message_octets) None (Some (message_of (signed octets)))) (signed-length octets h)
 
 signed_acts : (s : Station) (octets : List ℕ) → length octets ≡ covered_octets → s.link.key.held ≡ false
     → receive s (signed octets) ≡ act s true (message_of (signed octets))
 unfolding receive
 signed_acts s octets h e =
-    ap₂ (λ (held : Bool) (r : Received). acting s (genuine (installed_key_lem held s.link.key.octets) (signed octets)) r) e (signed_whole octets h)
-    ∙ ap (λ (b : Bool). acting s b (Whole (message_of (signed octets)))) (signed-genuine octets s.link.key.octets h)
+    ap₂ (λ (held : Bool) (r : Option Message). acting s (genuine (installed_key_lem held s.link.key.octets) (signed octets)) r) e (signed_whole octets h)
+    ∙ ap (λ (b : Bool). acting s b (Some (message_of (signed octets)))) (signed-genuine octets s.link.key.octets h)
 
 -- ---- the three messages
 

@@ -5,9 +5,10 @@ use mathlib.Core.Path.{◌≡◌, ◌∙◌, refl}
 use mathlib.Core.Bool.{Bool, true, false, cond}
 use mathlib.Core.List.{List, [], ◌∷◌}
 use lib.Dec.{leb}
+use Rattle.std.specs.Prelude.{None, Option, Some}
+use Rattle.link.specs.declared.Owed.{Owed}
+use Rattle.ploam.specs.declared.Message.{Message}
 use Rattle.ids.specs.declared.PortId.{PortId}
-use Rattle.ploam.specs.declared.Received.{Received}
-use Rattle.ploam.specs.declared.Received.TheVariants.{Whole, Short}
 use Rattle.ploam.specs.Reading.{received}
 use Rattle.integrity.specs.Integrity.{installed_key_lem, genuine}
 use Rattle.station.specs.declared.Activation.{Activation}
@@ -17,8 +18,6 @@ use Rattle.station.specs.Station.{enter, with_activation_lem}
 use Rattle.timing.specs.Timing.{count_to1_lem, end_from, frame_end_lem}
 use Rattle.effects.specs.declared.Change.{Change}
 use Rattle.effects.specs.declared.Change.TheVariants.{Keep, Identify, Range, Delay, AddAlloc, RemoveAlloc, Enter}
-use Rattle.effects.specs.declared.Debt.{Debt}
-use Rattle.effects.specs.declared.Debt.TheVariants.{Free, Owes}
 use Rattle.effects.specs.declared.Effect.{Effect}
 use Rattle.decisions.specs.Decisions.{is_ours, effect_of, fitting}
 use Rattle.effects.specs.Changes.{identify, range, set_delay_lem, apply_change_lem, apply_debt_lem, applied}
@@ -36,18 +35,18 @@ changed s (AddAlloc id) = refl
 changed s (RemoveAlloc id) = refl
 changed s (Enter a) = refl
 
-indebted : (s : Station) (d : Debt) → (apply_debt_lem s d).carried ≡ s.carried
-indebted s Free = refl
-indebted s (Owes answer) = refl
+indebted : (s : Station) (d : Option Owed) → (apply_debt_lem s d).carried ≡ s.carried
+indebted s None = refl
+indebted s (Some answer) = refl
 
 applied_carried : (s : Station) (e : Effect) → (applied s e).carried ≡ s.carried
 unfolding applied
 applied_carried s e = indebted (apply_change_lem s e.change) e.debt ∙ changed s e.change
 
-acted : (s : Station) (g : Bool) (r : Received) → (acting s g r).carried ≡ s.carried
+acted : (s : Station) (g : Bool) (r : Option Message) → (acting s g r).carried ≡ s.carried
 unfolding act
-acted s g Short = refl
-acted s g (Whole m) = go (is_ours s m) g
+acted s g None = refl
+acted s g (Some m) = go (is_ours s m) g
   where
     go : (a b : Bool) → (cond a (cond b (applied s (fitting s.link.owed (effect_of s m))) s) s).carried ≡ s.carried
     go true true = applied_carried s (fitting s.link.owed (effect_of s m))

@@ -4,13 +4,12 @@ use Prim.Native.Nat.{ℕ}
 use mathlib.Core.Path.{◌≡◌, ◌∙◌, refl, ap}
 use mathlib.Core.Bool.{Bool, true, false, cond}
 use mathlib.Core.List.{List}
+use Rattle.std.specs.Prelude.{None, Option, Some}
 use Rattle.xgem.proofs.RoundTrips.{xgem_written_read, frame_written_read}
 use Rattle.xgtc.proofs.RoundTrips.{hlend_written_read, allocation_written_read}
 use Rattle.ploam.specs.Reading.{received}
 use Rattle.integrity.specs.Integrity.{installed_key_lem, genuine}
 use Rattle.ploam.specs.declared.Message.{Message}
-use Rattle.ploam.specs.declared.Received.{Received}
-use Rattle.ploam.specs.declared.Received.TheVariants.{Whole, Short}
 use Rattle.integrity.proofs.Signed.{signed_right}
 use Rattle.ploamu.proofs.RoundTrip.{round_trip}
 use Rattle.station.specs.declared.Station.{Station}
@@ -22,10 +21,10 @@ use Rattle.demands.specs.Engine.{lingbarrow}
 use Rattle.demands.specs.Demand2.{Demand2}
 use Rattle.demands.proofs.HeaderFact.{header_fact}
 
-ignored : (s : Station) (r : Received) → acting s false r ≡ s
+ignored : (s : Station) (r : Option Message) → acting s false r ≡ s
 unfolding act
-ignored s Short = refl
-ignored s (Whole m) = go (is_ours s m)
+ignored s None = refl
+ignored s (Some m) = go (is_ours s m)
   where
     go : (b : Bool) → cond b s s ≡ s
     go true = refl

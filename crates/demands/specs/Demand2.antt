@@ -4,6 +4,7 @@
 -- What the frame call does with grants, messages, payload and activation steps is demand 1's row for answers 0 and 6, over
 -- the definitions of their crates; here stand headers, what is written and read again, and integrity.
 -- Assumes nothing.
+use Rattle.std.specs.Prelude.{Ok}
 use Rattle.std.specs.Prelude.{ℕ, ◌+◌, ◌≤◌, ◌≡◌, true, false, List, ◌++◌, length, take, drop}
 use Rattle.xgtc.specs.declared.hlend.Hlend.{Hlend}
 use Rattle.xgtc.specs.declared.allocation.Allocation.{Allocation}
@@ -20,7 +21,6 @@ use Rattle.integrity.specs.declared.Direction.TheVariants.{Upstream}
 use Rattle.ploamu.specs.Upstream.{upstream_address, upstream_type, upstream_seq_no, upstream_content, heard, as_sent, Numbers}
 use Rattle.ploamu.specs.Writing.{written}
 use Rattle.ploamu.specs.declared.UpstreamMessage.{UpstreamMessage}
-use Rattle.ploamu.specs.declared.Heard.TheVariants.{Said}
 use Rattle.station.specs.declared.Station.{Station}
 use Rattle.messages.specs.Receiving.{receive}
 use Rattle.demands.specs.Engine.{Engine}
@@ -32,7 +32,7 @@ pub record Again (installed : List ℕ) (message : UpstreamMessage) (id m : List
   pub type : type_of m ≡ upstream_type message
   pub seq_no_lem : seq_no_of m ≡ upstream_seq_no message
   pub content : take 36 (drop 4 m) ≡ upstream_content message id
-  pub said : heard m ≡ Said (as_sent message)
+  pub said : heard m ≡ Ok (as_sent message)
   pub right : mic_right_lem (key_for Upstream (address_of m) (type_of m) installed) Upstream m ≡ true
 
 pub record Demand2 (E : Engine) : Type 0 where

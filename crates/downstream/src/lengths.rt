@@ -8,14 +8,9 @@ pub const MOST_FRAME: usize = 135432;
 
 const OCTETS_A_WORD: usize = 4;
 
+#[tactic(auto, unfolding(crate::specs::Lengths::length_fits_lem))]
 pub fn length_fits(frame: usize) -> bool
     ensures { result ≡ length_fits_lem frame }
 {
-    if frame < LEAST_FRAME {
-        return false;
-    }
-    if MOST_FRAME < frame {
-        return false;
-    }
-    frame % OCTETS_A_WORD == 0
+    LEAST_FRAME <= frame && frame <= MOST_FRAME && frame % OCTETS_A_WORD == 0
 }

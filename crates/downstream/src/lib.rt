@@ -3,14 +3,15 @@
 #![tactic(auto)]
 
 ghost use Rattle.std.specs.Prelude.{◌≡◌};
-ghost use Rattle.xgtc.specs.Reads.{found_hlend};
 ghost use Rattle.downstream.specs.Opening.{by_hlend_lem, tested, opening_by};
+ghost use Rattle.xgem.specs.Reads.{found_in};
 
 pub mod lengths;
 pub mod partitions;
 
 use answers::Answer;
-use xgtc::hlend::{Hlend, HlendRead};
+use xgem::ReadError;
+use xgtc::hlend::Hlend;
 
 // Refused by 1 to 3, and no frame time passes; unread by 4 or 5, and one passes; or open, with its HLend.
 #[derive(Clone, Copy)]
@@ -20,18 +21,17 @@ pub enum Opening {
     Opened(Hlend),
 }
 
-fn by_hlend(read: HlendRead, octets: usize) -> Opening
-    ensures { result ≡ by_hlend_lem (found_hlend read) octets }
+fn by_hlend(read: Result<Hlend, ReadError>, octets: usize) -> Opening
+    ensures { result ≡ by_hlend_lem (found_in read) octets }
 {
     match read {
-        HlendRead::Fields(h) => {
+        Ok(h) => {
             if octets < partitions::header_end(h) {
                 return Opening::Unread(Answer::HeaderTooLong);
             }
             Opening::Opened(h)
         }
-        HlendRead::Unreadable => Opening::Unread(Answer::HlendUnreadable),
-        HlendRead::Short => Opening::Unread(Answer::HlendUnreadable),
+        Err(_) => Opening::Unread(Answer::HlendUnreadable),
     }
 }
 

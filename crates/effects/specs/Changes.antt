@@ -1,6 +1,7 @@
 -- What an effect does to the station.
 -- Assumes nothing.
-use Rattle.std.specs.Prelude.{ℕ, ◌≡◌}
+use Rattle.std.specs.Prelude.{None, Option, Some, ℕ, ◌≡◌}
+use Rattle.link.specs.declared.Owed.{Owed}
 use Rattle.ids.specs.declared.OnuId.{OnuId}
 use Rattle.station.specs.declared.Activation.TheVariants.{Ranging, Operation}
 use Rattle.station.specs.declared.Station.{Station}
@@ -10,8 +11,6 @@ use Rattle.ports.specs.Ports.{clear_management_lem}
 use Rattle.station.specs.Station.{enter, with_activation_lem, with_link_lem, with_ports_lem}
 use Rattle.effects.specs.declared.Change.{Change}
 use Rattle.effects.specs.declared.Change.TheVariants.{Keep, Identify, Range, Delay, AddAlloc, RemoveAlloc, Enter}
-use Rattle.effects.specs.declared.Debt.{Debt}
-use Rattle.effects.specs.declared.Debt.TheVariants.{Free, Owes}
 use Rattle.effects.specs.declared.Effect.{Effect}
 
 -- to O4, with TO1 started
@@ -34,9 +33,9 @@ apply_change_lem s (AddAlloc id) = with_link_lem s (with_allocs_lem s.link (add_
 apply_change_lem s (RemoveAlloc id) = with_link_lem s (with_allocs_lem s.link (remove_alloc s.link.allocs id))
 apply_change_lem s (Enter a) = enter s a
 
-abbrev pub apply_debt_lem : Station → Debt → Station
-apply_debt_lem s Free = s
-apply_debt_lem s (Owes answer) = with_link_lem s (with_owed_lem s.link (owe s.link.owed answer))
+abbrev pub apply_debt_lem : Station → Option Owed → Station
+apply_debt_lem s None = s
+apply_debt_lem s (Some answer) = with_link_lem s (with_owed_lem s.link (owe s.link.owed answer))
 
 unfoldable pub applied : Station → Effect → Station
 applied s e = apply_debt_lem (apply_change_lem s e.change) e.debt

@@ -25,37 +25,18 @@ pub enum Change {
     Enter(Activation),
 }
 
-// What the station then owes.
-#[derive(Clone, Copy)]
-pub enum Debt {
-    Free,
-    Owes(Owed),
-}
-
 #[derive(Clone, Copy)]
 pub struct Effect {
     pub change: Change,
-    pub debt: Debt,
+    // What the station then owes.
+    pub debt: Option<Owed>,
 }
 
 impl Effect {
     pub fn is_ignored(self) -> bool
         ensures { result ≡ is_ignored_lem self }
     {
-        let change = self.change;
-        let debt = self.debt;
-        match change {
-            Change::Keep => match debt {
-                Debt::Free => true,
-                Debt::Owes(_) => false,
-            },
-            Change::Identify(_) => false,
-            Change::Range(_) => false,
-            Change::Delay(_) => false,
-            Change::AddAlloc(_) => false,
-            Change::RemoveAlloc(_) => false,
-            Change::Enter(_) => false,
-        }
+        matches!(self.change, Change::Keep) && self.debt.is_none()
     }
 }
 
@@ -64,29 +45,25 @@ pub fn ignored() -> Effect
 {
     Effect {
         change: Change::Keep,
-        debt: Debt::Free,
+        debt: None,
     }
 }
 
 pub fn does(change: Change) -> Effect
     ensures { result ≡ does change }
 {
-    Effect {
-        change: change,
-        debt: Debt::Free,
-    }
+    Effect { change, debt: None }
 }
 
 pub fn owes(change: Change, response: Response, seq: u8) -> Effect
     ensures { result ≡ owes change response seq }
 {
-    let owed = Owed {
-        response: response,
-        seq_no: seq,
-    };
     Effect {
-        change: change,
-        debt: Debt::Owes(owed),
+        change,
+        debt: Some(Owed {
+            response,
+            seq_no: seq,
+        }),
     }
 }
 

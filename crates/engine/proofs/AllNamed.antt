@@ -9,6 +9,7 @@ use lib.Dec.{leb}
 use lib.ListN.{length, take, drop, length-drop}
 use lib.Seq.{length-take-le}
 use borrow.Author.Tests.{le-leb}
+use Rattle.std.specs.Prelude.{None, Option, Some, ℕ}
 use Rattle.hec.specs.Reads.{Reading, word, reading}
 use Rattle.hec.specs.Reads as hec
 use Rattle.octets.specs.Octets.{value}
@@ -21,8 +22,6 @@ use Rattle.station.specs.declared.Station.{Station}
 use Rattle.answers.specs.declared.Answer.TheVariants.{Done}
 use Rattle.entries.specs.Limits.{structure_octets}
 use Rattle.series.specs.Series.{entry_count}
-use Rattle.bwmap.specs.declared.Naming.{Naming}
-use Rattle.bwmap.specs.declared.Naming.TheVariants.{Named, ListTooShort}
 use Rattle.bwmap.specs.Names as map
 use Rattle.bwmap.specs.Names.{names_of, names_in}
 use Rattle.downstream.specs.Partitions.{hlend_octets, header_end_lem, map_of}
@@ -53,27 +52,27 @@ map_count h f e =
 
 -- ---- what the walk answers
 
-is_named : Naming → Bool
-is_named (Named n) = true
-is_named ListTooShort = false
+is_named : Option ℕ → Bool
+is_named (Some n) = true
+is_named None = false
 
-how_many : Naming → ℕ
-how_many (Named n) = n
-how_many ListTooShort = 0
+how_many : Option ℕ → ℕ
+how_many (Some n) = n
+how_many None = 0
 
-module _ (s : Station) (h : Hlend) (f names left m : List ℕ) (r : Naming) (part : m ≡ map_of h f) (fits : header_end_lem h ≤ length f) (few : h.bwmap ≤ most_structures) (room : most_structures ≤ length names) (walked : ◌≡◌ {A = map.NamesLeft} (record { answer = r; names = left }) (names_in (own_of s) m s.carried names)) where
-  all : ◌≡◌ {A = map.NamesLeft} (record { answer = r; names = left }) (record { answer = Named h.bwmap; names = put names (names_of (own_of s) (map_of h f) s.carried) })
+module _ (s : Station) (h : Hlend) (f names left m : List ℕ) (r : Option ℕ) (part : m ≡ map_of h f) (fits : header_end_lem h ≤ length f) (few : h.bwmap ≤ most_structures) (room : most_structures ≤ length names) (walked : ◌≡◌ {A = map.NamesLeft} (record { answer = r; names = left }) (names_in (own_of s) m s.carried names)) where
+  all : ◌≡◌ {A = map.NamesLeft} (record { answer = r; names = left }) (record { answer = Some h.bwmap; names = put names (names_of (own_of s) (map_of h f) s.carried) })
   all =
       let count : entry_count m ≡ h.bwmap = ap entry_count part ∙ map_count h f fits in
       let enough : leb (entry_count m) (length names) ≡ true = le-leb (entry_count m) (length names) (omega (arith, count, few, room)) in
-      walked ∙ rw enough (λ j. record { answer = Named (count j); names = put names (names_of (own_of s) (part j) s.carried) })
+      walked ∙ rw enough (λ j. record { answer = Some (count j); names = put names (names_of (own_of s) (part j) s.carried) })
 
-  pub all_named : (n : ℕ) → r ≡ Named n → ◌≡◌ {A = NamesLeft} (record { found = record { answer = Done; count = n }; names = left }) (named_in s h f names)
+  pub all_named : (n : ℕ) → r ≡ Some n → ◌≡◌ {A = NamesLeft} (record { found = record { answer = Done; count = n }; names = left }) (named_in s h f names)
   unfolding named_in how_many
   all_named n e =
       let count : n ≡ h.bwmap = sym (ap how_many e) ∙ ap (λ (l : map.NamesLeft). how_many l.answer) all in
       λ j. record { found = record { answer = Done; count = count j }; names = ap (λ (l : map.NamesLeft). l.names) all j }
 
-  pub never_short : {A : Type 0} → r ≡ ListTooShort → A
+  pub never_short : {A : Type 0} → r ≡ None → A
   unfolding is_named
   never_short e = absurd (true≢false (sym (ap (λ (l : map.NamesLeft). is_named l.answer) all) ∙ ap is_named e))

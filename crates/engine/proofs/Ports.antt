@@ -9,10 +9,9 @@ use lib.Dec.{eqb, leb, ltb}
 use lib.ListN.{length, get_or, set, length-set}
 use lib.Seq.{get_or-set_same, get_or-set_other, set-get_or}
 use borrow.Author.Tests.{eqb-true, eqb-false, leb-true, ltb-false, le-leb, ne_eqb}
+use Rattle.std.specs.Prelude.{None, Option, Some, ℕ}
 use Rattle.ids.specs.declared.PortId.{PortId}
 use Rattle.ids.specs.Ids.{assignable_port, same_port}
-use Rattle.ids.specs.declared.Place.{Place}
-use Rattle.ids.specs.declared.Place.TheVariants.{At, Nowhere}
 use Rattle.ports.specs.declared.Ports.{Ports}
 use Rattle.ports.specs.Limits.{added_ports, slots, slot_bytes, sdu_bytes}
 use Rattle.ids.specs.Places.{Below, place_from}
@@ -103,22 +102,22 @@ finished p i q clear f = subst (λ (w : List Bool). Fine (ports_of p.ids (set p.
 
 -- ---- a slot that a port has is not empty
 
-number : Place → ℕ
-number (At i) = i
-number Nowhere = 0
+number : Option ℕ → ℕ
+number (Some i) = i
+number None = 0
 
-is_at : Place → Bool
-is_at (At i) = true
-is_at Nowhere = false
+is_at : Option ℕ → Bool
+is_at (Some i) = true
+is_at None = false
 
-there : (f : PortId → Bool) (i : ℕ) (l : List PortId) (j : ℕ) → place_from f i l ≡ At j → (i ≤ j) × (f (get_or l (j - i) no_port) ≡ true)
+there : (f : PortId → Bool) (i : ℕ) (l : List PortId) (j : ℕ) → place_from f i l ≡ Some j → (i ≤ j) × (f (get_or l (j - i) no_port) ≡ true)
 unfolding is_at number
 there f i [] j e = absurd (false≢true (ap is_at e))
 there f i (a ∷ l) j e = go (f a) refl e (there f (i + 1) l j)
   where
     go
-        : (b : Bool) → f a ≡ b → cond b (At i) (place_from f (i + 1) l) ≡ At j
-        → (place_from f (i + 1) l ≡ At j → (i + 1 ≤ j) × (f (get_or l (j - (i + 1)) no_port) ≡ true))
+        : (b : Bool) → f a ≡ b → cond b (Some i) (place_from f (i + 1) l) ≡ Some j
+        → (place_from f (i + 1) l ≡ Some j → (i + 1 ≤ j) × (f (get_or l (j - (i + 1)) no_port) ≡ true))
         → (i ≤ j) × (f (get_or (a ∷ l) (j - i) no_port) ≡ true)
     go true h q ih =
         let z : j - i ≡ 0 = omega (arith, ap number q) in
@@ -128,23 +127,23 @@ there f i (a ∷ l) j e = go (f a) refl e (there f (i + 1) l j)
         let z : j - i ≡ suc (j - (i + 1)) = omega (arith, r.0) in
         (omega (arith, r.0), rw z r.1)
 
-taken_slot : (ids : List PortId) (own port : PortId) (i : ℕ) → slot_in_lem ids own port ≡ At i → empty_slot ids i ≡ false
+taken_slot : (ids : List PortId) (own port : PortId) (i : ℕ) → slot_in_lem ids own port ≡ Some i → empty_slot ids i ≡ false
 unfolding is_at number
 taken_slot ids own port i e = go (assignable_port port) refl e
   where
-    placed : assignable_port port ≡ true → (x : Place) → place_from (same_port port) 0 ids ≡ x → behind x ≡ At i → empty_slot ids i ≡ false
-    placed a (At j) h q =
+    placed : assignable_port port ≡ true → (x : Option ℕ) → place_from (same_port port) 0 ids ≡ x → behind x ≡ Some i → empty_slot ids i ≡ false
+    placed a (Some j) h q =
         let same = eqb-true port.0 (get_or ids j no_port).0 (rw (let z : j - 0 ≡ j = omega arith in z) at (there (same_port port) 0 ids j h).1) in
         let least = leb-true 1023 port.0 (both (leb 1023 port.0) _ a).0 in
         let n : i ≡ suc j = omega (arith, ap number q) in
         rw n (ne_eqb (get_or ids j no_port).0 0 (λ z. omega (arith, same, least, z)))
-    placed a Nowhere h q = absurd (false≢true (ap is_at q))
+    placed a None h q = absurd (false≢true (ap is_at q))
 
-    own-slot : (b : Bool) → cond b (At 0) Nowhere ≡ At i → empty_slot ids i ≡ false
+    own-slot : (b : Bool) → cond b (Some 0) None ≡ Some i → empty_slot ids i ≡ false
     own-slot true q = let n : i ≡ 0 = sym (ap number q) in rw n
     own-slot false q = absurd (false≢true (ap is_at q))
 
-    go : (b : Bool) → assignable_port port ≡ b → cond b (behind (place_from (same_port port) 0 ids)) (cond (same_port port own) (At 0) Nowhere) ≡ At i → empty_slot ids i ≡ false
+    go : (b : Bool) → assignable_port port ≡ b → cond b (behind (place_from (same_port port) 0 ids)) (cond (same_port port own) (Some 0) None) ≡ Some i → empty_slot ids i ≡ false
     go true a q = placed a (place_from (same_port port) 0 ids) refl q
     go false a q = own-slot (same_port port own) q
 
@@ -169,9 +168,9 @@ at_slot p i n last q there f = go (get_or p.waiting i false) refl (ltb sdu_bytes
 pub fragment_fine : (p : Ports) (own port : PortId) (last : Bool) (n : ℕ) → Fine p → Fine (ports_after p (reassembly_of_lem p own port last n) n)
 fragment_fine p own port last n f = go (eqb n 0)
   where
-    placed : (x : Place) → slot_of p own port ≡ x → Below x slots → Fine (ports_after p (at_place_lem p.lengths p.waiting last n x) n)
-    placed (At i) e q = at_slot p i n last q (taken_slot p.ids own port i e) f
-    placed Nowhere e q = f
+    placed : (x : Option ℕ) → slot_of p own port ≡ x → Below x slots → Fine (ports_after p (at_place_lem p.lengths p.waiting last n x) n)
+    placed (Some i) e q = at_slot p i n last q (taken_slot p.ids own port i e) f
+    placed None e q = f
 
     go : (b : Bool) → Fine (ports_after p (cond b Ignored (at_place_lem p.lengths p.waiting last n (slot_of p own port))) n)
     go true = f

@@ -8,6 +8,8 @@ use mathlib.Core.List.{List, ◌++◌}
 use lib.Dec.{leb}
 use lib.ListN.{length, take, drop, length-take, length-drop, length-append}
 use lib.Seq.{drop-drop, drop_at}
+use Rattle.std.specs.Prelude.{None, Option, Some}
+use Rattle.ploamu.specs.declared.UpstreamMessage.{UpstreamMessage}
 use Rattle.xgtc.specs.declared.hlend.Hlend.{Hlend}
 use Rattle.ploam.specs.Layout.{message_octets}
 use Rattle.integrity.specs.Integrity.{mic_of, key_for}
@@ -22,8 +24,6 @@ use Rattle.station.specs.declared.Activation.TheVariants.{Initial, SerialNumber,
 use Rattle.station.specs.declared.Station.{Station}
 use Rattle.station.specs.Limits.{registration_octets_lem}
 use Rattle.replies.specs.Replying.{reply_of_lem, after_in, after_reply_lem}
-use Rattle.replies.specs.declared.replying.Reply.{Reply}
-use Rattle.replies.specs.declared.replying.Reply.TheVariants.{Silent, Says}
 use Rattle.replies.specs.Replies.{key_of, said, wrote, in_place, replies_from}
 use Rattle.plan.specs.Plan.{messages}
 use Rattle.bwmap.proofs.Kept.{bursts-most}
@@ -54,9 +54,9 @@ wrote-long : (s : Station) (delay : ℕ) (t : List ℕ) → length s.registratio
 unfolding wrote written
 wrote-long s delay t r h = go (reply_of_lem s delay)
   where
-    go : (x : Reply) → length (said s x t) ≡ message_octets
-    go Silent = h
-    go (Says message) =
+    go : (x : Option UpstreamMessage) → length (said s x t) ≡ message_octets
+    go None = h
+    go (Some message) =
         laid-long (mic_of (key_for Upstream (upstream_address message) (upstream_type message) (key_of s.link.key)) Upstream (upstream_octets_lem message s.registration))
         (upstream_octets_lem message s.registration) t (fitting message) (mic_length _ _) (octets-length message s.registration r) h
 

@@ -4,9 +4,7 @@ ghost use Rattle.downstream.specs.Partitions.{header_end_lem};
 ghost use Rattle.engine.specs.Naming.{most_structures, named_in, NamesAre};
 
 use answers::Answer;
-use bwmap::Naming;
 use downstream::{Opening, partitions};
-use entries::Own;
 use station::Station;
 use xgtc::hlend::Hlend;
 
@@ -23,10 +21,7 @@ pub struct Named {
 fn unnamed(answer: Answer) -> Named
     ensures { result ≡ record { answer = answer; count = 0 } }
 {
-    Named {
-        answer: answer,
-        count: 0,
-    }
+    Named { answer, count: 0 }
 }
 
 fn named_in(s: Station, h: Hlend, frame: &[u8], names: &mut [u8]) -> Named
@@ -35,21 +30,12 @@ fn named_in(s: Station, h: Hlend, frame: &[u8], names: &mut [u8]) -> Named
 {
     let end = partitions::map_end(h);
     let map = &frame[partitions::HLEND_OCTETS..end];
-    let arrived = s.activation;
-    let link = s.link;
-    let onu = link.onu;
-    let allocs = link.allocs;
-    let own = Own {
-        activation: arrived,
-        onu: onu,
-        allocs: allocs,
-    };
-    match bwmap::name_map(map, own, s.carried, names) {
-        Naming::Named(n) => Named {
+    match bwmap::name_map(map, frame::own_of(s), s.carried, names) {
+        Some(n) => Named {
             answer: Answer::Done,
             count: n,
         },
-        Naming::ListTooShort => unnamed(Answer::BufferTooShort),
+        None => unnamed(Answer::BufferTooShort),
     }
 }
 

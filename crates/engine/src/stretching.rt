@@ -32,7 +32,7 @@ fn empty(answer: Answer) -> StretchPlace
     ensures { result ≡ empty answer }
 {
     StretchPlace {
-        answer: answer,
+        answer,
         at: 0,
         bytes: 0,
     }
@@ -50,20 +50,15 @@ fn answer_if(lost: bool) -> Answer
 fn place_in(s: Station, h: Hlend, frame: &[u8], k: usize) -> StretchPlace
     ensures { result ≡ place_in s h frame.now k }
 {
-    let arrived = s.activation;
-    if !arrived.is_operating() {
+    if !s.activation.is_operating() {
         return empty(Answer::Done);
     }
     let end = partitions::header_end(h);
-    let link = s.link;
-    let onu = link.onu;
-    let ports = s.ports;
-    let p = stretches::stretch_place(ports, onu.management_port(), frame, end, k);
-    let t = p.stretch;
+    let p = stretches::stretch_place(s.ports, s.link.onu.management_port(), frame, end, k);
     StretchPlace {
         answer: answer_if(p.lost),
-        at: t.at,
-        bytes: t.bytes,
+        at: p.stretch.at,
+        bytes: p.stretch.bytes,
     }
 }
 
@@ -96,25 +91,18 @@ pub fn stretch(s: Station, frame: &[u8], k: usize) -> &[u8]
 fn nothing(answer: Answer) -> StretchPlaces
     ensures { result ≡ record { answer = answer; count = 0 } }
 {
-    StretchPlaces {
-        answer: answer,
-        count: 0,
-    }
+    StretchPlaces { answer, count: 0 }
 }
 
 fn places_in(s: Station, h: Hlend, frame: &[u8], places: &mut [usize]) -> StretchPlaces
     requires { length frame.now / bytes_a_number ≤ length places.old }
     ensures { record { found = result; places = places.new } ≡ places_in_lem s h frame.now places.old }
 {
-    let arrived = s.activation;
-    if !arrived.is_operating() {
+    if !s.activation.is_operating() {
         return nothing(Answer::Done);
     }
     let end = partitions::header_end(h);
-    let link = s.link;
-    let onu = link.onu;
-    let ports = s.ports;
-    let p = stretches::stretch_places(ports, onu.management_port(), frame, end, 0, places);
+    let p = stretches::stretch_places(s.ports, s.link.onu.management_port(), frame, end, 0, places);
     StretchPlaces {
         answer: answer_if(p.lost),
         count: p.count,

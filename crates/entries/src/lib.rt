@@ -1,11 +1,11 @@
 // The entries of the bandwidth map (clause 8.1.2), each by itself: read, usable or not, and whose it is.
 #![tactic(auto)]
 
-pub mod naming;
 pub mod reading;
 
-ghost use Rattle.std.specs.Prelude.{◌≡◌, ◌||◌, ◌&&◌, take};
-ghost use Rattle.xgtc.specs.Reads.{read_allocation_lem, found_allocation};
+ghost use Rattle.std.specs.Prelude.{◌≡◌, take};
+ghost use Rattle.xgem.specs.Reads.{found_in};
+ghost use Rattle.xgtc.specs.Reads.{read_allocation_lem};
 ghost use Rattle.ids.specs.Places.{some};
 ghost use Rattle.ids.specs.Ids.{same_alloc};
 ghost use Rattle.entries.specs.Names.{name_number};
@@ -15,7 +15,8 @@ use ids::{AllocId, OnuId};
 use link::Allocs;
 use station::Activation;
 use station::limits::LAST_WORD;
-use xgtc::allocation::{Allocation, AllocationRead};
+use xgem::ReadError;
+use xgtc::allocation::Allocation;
 
 // Octets of an allocation structure.
 pub const STRUCTURE_OCTETS: usize = 8;
@@ -82,19 +83,7 @@ impl Verdict {
     pub fn is_planned(self) -> bool
         ensures { result ≡ is_planned_lem self }
     {
-        match self {
-            Verdict::Planned => true,
-            Verdict::Unreadable => false,
-            Verdict::StartTimeUnfit => false,
-            Verdict::DbruWithoutRoom => false,
-            Verdict::Foreign => false,
-            Verdict::ContinuingNothing => false,
-            Verdict::Seventeenth => false,
-            Verdict::TooLong => false,
-            Verdict::Overlapping => false,
-            Verdict::AfterTheLast => false,
-            Verdict::Silent => false,
-        }
+        matches!(self, Verdict::Planned)
     }
 
     pub fn number(self) -> u8
@@ -116,34 +105,25 @@ impl Verdict {
     }
 }
 
-pub(crate) fn start_unfit(a: Allocation) -> bool
+#[tactic(auto, unfolding(crate::specs::Standings::start_unfit_lem))]
+fn start_unfit(a: Allocation) -> bool
     ensures { result ≡ start_unfit_lem a }
 {
     LAST_WORD < a.start && a.start < CONTINUING
 }
 
-pub(crate) fn no_room(a: Allocation) -> bool
+#[tactic(auto, unfolding(crate::specs::Standings::no_room_lem))]
+fn no_room(a: Allocation) -> bool
     ensures { result ≡ no_room_lem a }
 {
     a.dbru && a.grant == 0
 }
 
-pub(crate) fn continues(a: Allocation) -> bool
+#[tactic(auto, unfolding(crate::specs::Standings::continues))]
+fn continues(a: Allocation) -> bool
     ensures { result ≡ continues a }
 {
     a.start == CONTINUING
-}
-
-pub(crate) fn or_is(hit: bool, within: bool, id: AllocId, other: AllocId) -> bool
-    ensures { result ≡ hit || (within && same_alloc id other) }
-{
-    if hit {
-        return true;
-    }
-    if within {
-        return id.is(other);
-    }
-    false
 }
 
 // Whether the Alloc-ID is among the first n. All places are compared, which is faster than to stop early.
@@ -151,106 +131,77 @@ fn among(ids: [AllocId; 16], n: usize, id: AllocId) -> bool
     ensures { result ≡ some (same_alloc id) (take n ids) }
 {
     let mut hit = false;
-    let mut i: usize = 0;
-    while i < link::ADDED_ALLOCS {
-        let other = ids[i];
-        hit = or_is(hit, i < n, id, other);
-        i += 1;
+    for (i, other) in ids.iter().enumerate() {
+        hit |= (i < n) & (id == *other);
     }
     hit
 }
 
+#[tactic(auto, unfolding(crate::specs::Standings::held))]
 fn held(onu: OnuId, allocs: Allocs, id: AllocId) -> bool
     ensures { result ≡ held onu allocs id }
 {
-    if id.is(onu.default_alloc()) {
-        return true;
-    }
-    let ids = allocs.ids;
-    among(ids, allocs.count, id)
+    id == onu.default_alloc() || among(allocs.ids, allocs.count, id)
 }
 
-pub(crate) fn discovery(a: Allocation) -> bool
+#[tactic(auto, unfolding(crate::specs::Standings::discovery))]
+fn discovery(a: Allocation) -> bool
     ensures { result ≡ discovery a }
 {
-    let id = a.alloc;
-    if LAST_WORD < a.start {
-        return false;
-    }
-    if !id.is(AllocId::broadcast()) {
-        return false;
-    }
-    if a.ploamu {
-        return a.grant == 0;
-    }
-    false
+    a.start <= LAST_WORD && a.alloc == AllocId::broadcast() && a.ploamu && a.grant == 0
 }
 
-pub(crate) fn ranging(onu: OnuId, a: Allocation) -> bool
+#[tactic(auto, unfolding(crate::specs::Standings::ranging))]
+fn ranging(onu: OnuId, a: Allocation) -> bool
     ensures { result ≡ ranging onu a }
 {
-    let id = a.alloc;
-    if !id.is(onu.default_alloc()) {
-        return false;
-    }
-    if continues(a) {
-        return true;
-    }
-    a.ploamu
+    a.alloc == onu.default_alloc() && (continues(a) || a.ploamu)
 }
 
 impl Own {
     pub fn owns(self, a: Allocation) -> bool
         ensures { result ≡ ours self a }
     {
-        let activation = self.activation;
-        let onu = self.onu;
-        match activation {
-            Activation::Initial => false,
+        match self.activation {
             Activation::SerialNumber => discovery(a),
-            Activation::Ranging(_) => ranging(onu, a),
-            Activation::Operation => {
-                let allocs = self.allocs;
-                held(onu, allocs, a.alloc)
-            }
-            Activation::Intermittent(_) => false,
-            Activation::EmergencyStop => false,
+            Activation::Ranging(_) => ranging(self.onu, a),
+            Activation::Operation => held(self.onu, self.allocs, a.alloc),
+            Activation::Initial | Activation::Intermittent(_) | Activation::EmergencyStop => false,
         }
     }
 
+    #[tactic(auto, unfolding(crate::specs::Standings::sorted))]
     fn sort(self, a: Allocation) -> Standing
         ensures { result ≡ sorted self a }
     {
         if start_unfit(a) {
-            return Standing::Apart(Verdict::StartTimeUnfit);
+            Standing::Apart(Verdict::StartTimeUnfit)
+        } else if no_room(a) {
+            Standing::Apart(Verdict::DbruWithoutRoom)
+        } else if !self.owns(a) {
+            Standing::Apart(Verdict::Foreign)
+        } else if continues(a) {
+            Standing::More(a)
+        } else {
+            Standing::Head(a)
         }
-        if no_room(a) {
-            return Standing::Apart(Verdict::DbruWithoutRoom);
-        }
-        if self.owns(a) {
-            if continues(a) {
-                return Standing::More(a);
-            }
-            return Standing::Head(a);
-        }
-        Standing::Apart(Verdict::Foreign)
     }
 
-    pub fn standing(self, read: AllocationRead) -> Standing
-        ensures { result ≡ standing self (found_allocation read) }
+    #[tactic(auto, unfolding(crate::specs::Standings::standing))]
+    pub fn standing(self, read: Result<Allocation, ReadError>) -> Standing
+        ensures { result ≡ standing self (found_in read) }
     {
-        let activation = self.activation;
-        if activation.is_silent() {
+        if self.activation.is_silent() {
             return Standing::Apart(Verdict::Silent);
         }
         match read {
-            AllocationRead::Fields(a) => self.sort(a),
-            AllocationRead::Unreadable => Standing::Apart(Verdict::Unreadable),
-            AllocationRead::Short => Standing::Apart(Verdict::Unreadable),
+            Ok(a) => self.sort(a),
+            Err(_) => Standing::Apart(Verdict::Unreadable),
         }
     }
 
-    // The entry at the start of a slice.
+    // The entry at the start of a slice. The walks of plan and names are each a loop over entries: it is merged into both.
+    #[inline(always)]
     pub fn standing_ahead(self, s: &[u8]) -> Standing
         ensures { result ≡ standing self (read_allocation_lem s.now) }
     {

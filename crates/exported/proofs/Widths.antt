@@ -9,10 +9,10 @@ use mathlib.Core.List.{List, [], ◌∷◌, ◌++◌}
 use lib.Dec.{eqb, leb, ltb}
 use lib.ListN.{length, get_or, take, drop, set, replicate}
 use borrow.Author.Tests.{leb-true}
+use Rattle.std.specs.Prelude.{None, Option, Some, ℕ}
+use Rattle.link.specs.declared.Owed.{Owed}
 use Rattle.ids.specs.declared.AllocId.{AllocId}
 use Rattle.ids.specs.declared.PortId.{PortId}
-use Rattle.ids.specs.declared.Place.{Place}
-use Rattle.ids.specs.declared.Place.TheVariants.{At, Nowhere}
 use Rattle.aes.specs.Words.{Octets}
 use Rattle.xgtc.specs.declared.hlend.Hlend.{Hlend}
 use Rattle.ploam.specs.declared.Adjustment.{Adjustment}
@@ -24,8 +24,6 @@ use Rattle.ploam.specs.declared.Switch.TheVariants.{DisableOwn, EnableOwn, Disab
 use Rattle.ploam.specs.declared.Content.{Content}
 use Rattle.ploam.specs.declared.Content.TheVariants.{Profile, AssignOnuId, RangingTime, DeactivateOnuId, DisableSerialNumber, RequestRegistration, AssignAllocId, KeyControl, SleepAllow, Unknown}
 use Rattle.ploam.specs.declared.Message.{Message}
-use Rattle.ploam.specs.declared.Received.{Received}
-use Rattle.ploam.specs.declared.Received.TheVariants.{Whole, Short}
 use Rattle.ploam.specs.Layout as layout
 use Rattle.ploam.specs.Layout.{message_octets, message_at, number16, number32, type_of, octet}
 use Rattle.ploam.specs.declared.Completion.TheVariants.{Ok, ProcessingError, ParameterError, UnknownMessageType}
@@ -51,8 +49,6 @@ use Rattle.station.specs.Station.{power_on_lem, enter, with_activation_lem}
 use Rattle.timing.specs.Timing.{count_to1_lem, count_to2_lem, end_from, frame_end_lem, silence, lost_from, lost_state_lem, lost_time_lem, unread_from, unread_state_lem, unread_time_lem}
 use Rattle.effects.specs.declared.Change.{Change}
 use Rattle.effects.specs.declared.Change.TheVariants.{Keep, Identify, Range, Delay, AddAlloc, RemoveAlloc, Enter}
-use Rattle.effects.specs.declared.Debt.{Debt}
-use Rattle.effects.specs.declared.Debt.TheVariants.{Free, Owes}
 use Rattle.effects.specs.declared.Effect.{Effect}
 use Rattle.effects.specs.Effects.{ignored, does, owes, answers}
 use Rattle.effects.specs.Changes.{identify, range, set_delay_lem, apply_change_lem, apply_debt_lem, applied}
@@ -294,9 +290,9 @@ added_ids a id p e = go (leb added_allocs a.count)
     go true = e
     go false = every_set IsId a.ids a.count id p e
 
-removed_ids : (a : Allocs) (place : Place) → Every IsId a.ids → Every IsId (remove_at a place).ids
-removed_ids a Nowhere e = e
-removed_ids a (At i) e =
+removed_ids : (a : Allocs) (place : Option ℕ) → Every IsId a.ids → Every IsId (remove_at a place).ids
+removed_ids a None e = e
+removed_ids a (Some i) e =
     every_join IsId (take i a.ids) (drop (i + 1) a.ids ++ (no_alloc ∷ [])) (every_take IsId i a.ids e)
     (every_join IsId (drop (i + 1) a.ids) (no_alloc ∷ []) (every_drop IsId (i + 1) a.ids e) (omega arith, tt))
 
@@ -320,9 +316,9 @@ change_widths s (AddAlloc id) w p = with-allocs s.serial s.registration s.link w
 change_widths s (RemoveAlloc id) w p = with-allocs s.serial s.registration s.link w (remove_alloc s.link.allocs id) (removed_ids s.link.allocs (alloc_place s.link.allocs id) w.alloc_ids)
 change_widths s (Enter a) w p = of_nothing s.serial s.registration s.link w
 
-debt_widths : (s : Station) (d : Debt) → Widths s → Widths (apply_debt_lem s d)
-debt_widths s Free w = w
-debt_widths s (Owes answer) w = same_but s.serial s.registration s.link (with_owed_lem s.link (owe s.link.owed answer)) w refl refl refl
+debt_widths : (s : Station) (d : Option Owed) → Widths s → Widths (apply_debt_lem s d)
+debt_widths s None w = w
+debt_widths s (Some answer) w = same_but s.serial s.registration s.link (with_owed_lem s.link (owe s.link.owed answer)) w refl refl refl
 
 applied-widths : (s : Station) (e : Effect) → Widths s → Change_wide e.change → Widths (applied s e)
 unfolding applied
@@ -347,7 +343,7 @@ receive-widths : (s : Station) (m : List ℕ) → Widths s → Octets m → Widt
 unfolding receive received
 receive-widths s m w o = go (ltb (length m) message_octets) (genuine (installed_key_lem s.link.key.held s.link.key.octets) m)
   where
-    go : (b g : Bool) → Widths (acting s g (cond b Short (Whole (message_of m))))
+    go : (b g : Bool) → Widths (acting s g (cond b None (Some (message_of m))))
     go true g = w
     go false g = act-widths s g (message_of m) w (content_wide m o)
 

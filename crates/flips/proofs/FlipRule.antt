@@ -4,7 +4,7 @@
 -- Assumes nothing.
 use mathlib.Core.Path.{◌≡◌, refl, sym, ap, ◌∙◌, subst}
 use mathlib.Core.Bool.{Bool, true, false, cond, ◌&&◌}
-use mathlib.Core.List.{List, [], ◌∷◌, ◌++◌}
+use mathlib.Core.List.{List, [], ◌∷◌}
 use Prim.Native.Nat.{ℕ, zero, suc, ◌+◌, ◌*◌, ◌/◌, ◌%◌, ◌^◌, ◌≤◌, ◌<◌}
 use native.Mathlib.Nat.{zero-mul, one-mul, add-mul, mul_assoc, mul_comm, add-zero, zero-add, add-suc, suc-add, le_of_suc-le-suc, not-suc-le-zero}
 use native.Mathlib.Omega.{arith}
@@ -13,14 +13,10 @@ use lib.Bits.{bit_xor, xor_zero_r, xor_zero_l}
 use lib.Count.{ones, ones_step, ones-ones}
 use borrow.Author.Tests.{le-ltb}
 use lib.Dec.{T, eqb, ltb, eqb→eq}
-use lib.ListN.{get_or, get_or-append}
-use lib.Seq.{get_or-append-add}
+use lib.ListN.{get_or}
 use Rattle.bch.specs.Code.{remainder_from, double, remainder}
 use Rattle.bch.specs.Tables.{first_place_lem, second_place, bits_of, counts_of, Flips}
-use Rattle.tables.specs.Tables.{past, lane}
-use Rattle.tables.proofs.Entries.{past-at, lane-zero}
-use Rattle.flips.specs.Lower.{lower}
-use Rattle.flips.specs.Upper.{upper}
+use Rattle.flips.specs.Flipped.{flipped}
 use Rattle.bch.proofs.Both.{left, right}
 use Rattle.bch.proofs.Xor.{bit, xor_assoc}
 use Rattle.bch.proofs.Ones.{half_lt, ones_none}
@@ -169,24 +165,9 @@ leaves_at (suc n) s (v ∷ vs) t (suc k) h =
     subst (λ (x : ℕ). T (leaves x (get_or vs k 0))) (suc-add s k ∙ sym (add-suc s k))
     (leaves_at n (suc s) vs (right (leaves s v) (all_leave n (suc s) vs) t) k (le_of_suc-le-suc h))
 
--- the entries of a table that holds four in each
-abbrev pub unpacked : List ℕ → List ℕ
-unpacked [] = []
-unpacked (x ∷ xs) = lane 0 x ∷ lane 1 x ∷ lane 2 x ∷ lane 3 x ∷ unpacked xs
-
-pub unpacked-at : (xs : List ℕ) (q j : ℕ) → j < 4 → get_or (unpacked xs) (q * 4 + j) 0 ≡ lane j (get_or xs q 0)
-unpacked-at [] q j h = sym (lane-zero j)
-unpacked-at (x ∷ xs) zero zero h = refl
-unpacked-at (x ∷ xs) zero (suc zero) h = refl
-unpacked-at (x ∷ xs) zero (suc (suc zero)) h = refl
-unpacked-at (x ∷ xs) zero (suc (suc (suc zero))) h = refl
-unpacked-at (x ∷ xs) zero (suc (suc (suc (suc j)))) h = absurd (omega arith)
-unpacked-at (x ∷ xs) (suc q) j h =
-    let e : suc q * 4 + j ≡ suc (suc (suc (suc (q * 4 + j)))) = omega arith in
-    rw e (unpacked-at xs q j h)
-
+-- opaque, so that no goal of those who use the rule has its numbers
 unfoldable pub flips : List ℕ
-flips = unpacked (lower ++ upper)
+flips = flipped
 
 passed : T (tested (dealt 12 flips) 63 2 1 0 0 0 2)
 unfolding tested dealt flips
@@ -226,21 +207,3 @@ rule s h =
       named = λ f hf ho e. subst (λ (x : ℕ). (bits_of (get_or flips x 0) ≡ f * 2) × (counts_of (get_or flips x 0) ≡ ones f)) e (named f hf ho);
       sound = sound s h;
     }
-
--- the entry of a syndrome, out of the four that stand together
-pub entry_of : (s : ℕ) → lane (s % 4) (get_or (lower ++ upper) (s / 4 % 1024) 0) ≡ get_or flips (s % 4096) 0
-unfolding flips
-entry_of s =
-    let at : s / 4 % 1024 * 4 + s % 4 ≡ s % 4096 = omega arith in
-    sym (unpacked-at (lower ++ upper) (s / 4 % 1024) (s % 4) (omega arith)) ∙ ap (λ (x : ℕ). get_or (unpacked (lower ++ upper)) x 0) at
-
--- and those four, in one table or the other
-pub in-lower : (s : ℕ) → s / 2048 % 2 ≡ 0 → past 512 lower (512 + s / 4 % 512) ≡ get_or (lower ++ upper) (s / 4 % 1024) 0
-in-lower s e =
-    let at : s / 4 % 1024 ≡ s / 4 % 512 = omega arith in
-    past-at 512 lower (s / 4 % 512) ∙ sym (get_or-append lower upper 0 (s / 4 % 512) (omega arith)) ∙ ap (λ (x : ℕ). get_or (lower ++ upper) x 0) (sym at)
-
-pub in-upper : (s : ℕ) → s / 2048 % 2 ≡ 1 → past 512 upper (512 + s / 4 % 512) ≡ get_or (lower ++ upper) (s / 4 % 1024) 0
-in-upper s e =
-    let at : s / 4 % 1024 ≡ 512 + s / 4 % 512 = omega arith in
-    past-at 512 upper (s / 4 % 512) ∙ sym (get_or-append-add lower upper (s / 4 % 512) 0) ∙ ap (λ (x : ℕ). get_or (lower ++ upper) x 0) (sym at)

@@ -8,11 +8,10 @@ use native.Mathlib.Omega.{arith}
 use borrow.Author.Tests.{ltb-false}
 use lib.Dec.{eqb, ltb}
 use lib.ListN.{length, get_or}
+use Rattle.std.specs.Prelude.{None, Option, Some, ℕ}
 use Rattle.ids.specs.declared.PortId.{PortId}
 use Rattle.ids.specs.Ids.{same_port, assignable_port}
 use Rattle.ports.specs.declared.Ports.{Ports}
-use Rattle.ids.specs.declared.Place.{Place}
-use Rattle.ids.specs.declared.Place.TheVariants.{At, Nowhere}
 use Rattle.ports.specs.Limits.{slots, added_ports, sdu_bytes}
 use Rattle.ids.specs.Places.{Below, place_from}
 use Rattle.fragments.specs.declared.Reassembly.{Reassembly}
@@ -25,26 +24,26 @@ place-below : {A : Type 0} (f : A → Bool) (i : ℕ) (l : List A) → Below (pl
 place-below f i [] = tt
 place-below f i (a ∷ l) = go (f a) (place_from f (i + 1) l) (place-below f (i + 1) l)
   where
-    go : (b : Bool) (p : Place) → Below p (i + 1 + length l) → Below (cond b (At i) p) (i + suc (length l))
+    go : (b : Bool) (p : Option ℕ) → Below p (i + 1 + length l) → Below (cond b (Some i) p) (i + suc (length l))
     go true p h = omega arith
-    go false (At j) h = omega arith
-    go false Nowhere h = tt
+    go false (Some j) h = omega arith
+    go false None h = tt
 
-pub behind-below : (p : Place) (n : ℕ) → Below p n → Below (behind p) (suc n)
-behind-below (At i) n h = omega arith
-behind-below Nowhere n h = tt
+pub behind-below : (p : Option ℕ) (n : ℕ) → Below p n → Below (behind p) (suc n)
+behind-below (Some i) n h = omega arith
+behind-below None n h = tt
 
 pub added-below : (ids : List PortId) (port : PortId) → length ids ≡ added_ports → Below (place_from (same_port port) 0 ids) added_ports
 added-below ids port e = go (place_from (same_port port) 0 ids) (place-below (same_port port) 0 ids)
   where
-    go : (q : Place) → Below q (0 + length ids) → Below q added_ports
-    go (At i) h = omega (arith, e)
-    go Nowhere h = tt
+    go : (q : Option ℕ) → Below q (0 + length ids) → Below q added_ports
+    go (Some i) h = omega (arith, e)
+    go None h = tt
 
 pub slot_in_range : (ids : List PortId) (own port : PortId) → length ids ≡ added_ports → Below (slot_in_lem ids own port) slots
 slot_in_range ids own port e = go (assignable_port port) (same_port port own)
   where
-    go : (a b : Bool) → Below (cond a (behind (place_from (same_port port) 0 ids)) (cond b (At 0) Nowhere)) slots
+    go : (a b : Bool) → Below (cond a (behind (place_from (same_port port) 0 ids)) (cond b (Some 0) None)) slots
     go true b = behind-below (place_from (same_port port) 0 ids) added_ports (added-below ids port e)
     go false true = omega arith
     go false false = tt
@@ -64,10 +63,10 @@ module _ (ids : List PortId) (lengths : List ℕ) (waiting : List Bool) where
   pub reassembly_within : (own port : PortId) (last : Bool) (n : ℕ) → length ids ≡ added_ports → Within lengths (reassembly_in_lem ids lengths waiting own port last n) n
   reassembly_within own port last n e = go (eqb n 0) (slot_in_lem ids own port) (slot_in_range ids own port e)
     where
-      go : (b : Bool) (q : Place) → Below q slots → Within lengths (cond b Ignored (at_place_lem lengths waiting last n q)) n
+      go : (b : Bool) (q : Option ℕ) → Below q slots → Within lengths (cond b Ignored (at_place_lem lengths waiting last n q)) n
       go true q h = tt
-      go false (At i) h = within_slot last n i (get_or waiting i false) h
-      go false Nowhere h = tt
+      go false (Some i) h = within_slot last n i (get_or waiting i false) h
+      go false None h = tt
 
   -- a port that delivers does not wait
   abbrev Clear : Reassembly → Type 0
@@ -86,10 +85,10 @@ module _ (ids : List PortId) (lengths : List ℕ) (waiting : List Bool) where
       at i false e false true = e
       at i false e false false = tt
 
-      go : (b : Bool) (q : Place) → Clear (cond b Ignored (at_place_lem lengths waiting last n q))
+      go : (b : Bool) (q : Option ℕ) → Clear (cond b Ignored (at_place_lem lengths waiting last n q))
       go true q = tt
-      go false (At i) = at i (get_or waiting i false) refl (ltb sdu_bytes (get_or lengths i 0 + n)) last
-      go false Nowhere = tt
+      go false (Some i) = at i (get_or waiting i false) refl (ltb sdu_bytes (get_or lengths i 0 + n)) last
+      go false None = tt
 
 pub ids_after : (p : Ports) (e : Reassembly) (n : ℕ) → (ports_after p e n).ids ≡ p.ids
 ids_after p Ignored n = refl

@@ -8,7 +8,7 @@ use Rattle.ids.specs.declared.PortId.{PortId}
 use Rattle.fragments.specs.declared.Reassembly.{Reassembly}
 use Rattle.fragments.specs.Fragments.{reassembly_in_lem}
 
--- of `reassembly_in` and of `reassembly_of`, which have one contract
+-- of `reassembly_in`
 pub reassembly_once : (ids : List PortId) (lengths : List ℕ) (waiting : List Bool) (own port : PortId) (last : Bool) (n : ℕ) (a b : Reassembly)
     → a ≡ reassembly_in_lem ids lengths waiting own port last n → b ≡ reassembly_in_lem ids lengths waiting own port last n → a ≡ b
 reassembly_once ids lengths waiting own port last n a b x y = x ∙ sym y

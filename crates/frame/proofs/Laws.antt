@@ -9,6 +9,7 @@ use mathlib.Core.List.{List, [], ◌∷◌}
 use lib.Dec.{leb, eqb}
 use lib.ListN.{length, get_or, take, drop}
 use borrow.Author.Tests.{leb-true, le-leb, eqb-true}
+use Rattle.std.specs.Prelude.{Option, Some}
 use Rattle.ids.specs.declared.PortId.{PortId}
 use Rattle.ids.specs.Ids.{management_port_lem}
 use Rattle.station.specs.declared.Station.{Station}
@@ -25,11 +26,9 @@ use Rattle.validity.proofs.Tests.{both, join}
 use Rattle.validity.proofs.Every.{every_get}
 use Rattle.ploam.specs.Layout.{message_octets}
 use Rattle.entries.specs.declared.Own.{Own}
-use Rattle.bwmap.specs.declared.Planning.{Planning}
 use Rattle.bwmap.specs.declared.Plan.{Plan}
 use Rattle.plan.specs.Limits.{plan_numbers}
 use Rattle.series.specs.Series.{Series, planned_of}
-use Rattle.bwmap.specs.declared.Planning.TheVariants.{Planned}
 use Rattle.bwmap.specs.Plan as whole
 use Rattle.plan.specs.Records.{mark}
 use Rattle.plan.specs.Plan.{messages, written}
@@ -69,11 +68,11 @@ room a lent h =
 
 in_full
     : (own : Own) (m : List ℕ) (carried : ℕ) (plan : List ℕ) → plan_numbers ≤ length plan
-    → whole.plan_of own m carried plan ≡ record { answer = Planned (counted carried (planned_of own m carried)); plan = written (planned_of own m carried) plan }
+    → whole.plan_of own m carried plan ≡ record { answer = Some (counted carried (planned_of own m carried)); plan = written (planned_of own m carried) plan }
 in_full own m carried plan h = rw (le-leb plan_numbers (length plan) h)
 
 pub planned_fully
-    : (own : Own) (m : List ℕ) (carried : ℕ) (plan : List ℕ) (answer : Planning) (left : List ℕ) → plan_numbers ≤ length plan
+    : (own : Own) (m : List ℕ) (carried : ℕ) (plan : List ℕ) (answer : Option Plan) (left : List ℕ) → plan_numbers ≤ length plan
     → MapLeaves own m carried plan answer left
     → (plan_of answer ≡ counted carried (planned_of own m carried)) × (left ≡ written (planned_of own m carried) plan)
 planned_fully own m carried plan answer left h e =

@@ -1,6 +1,6 @@
 -- One frame: everything that the frame call returns and leaves, for every state, arrival and lent buffer.
 -- Assumes nothing.
-use Rattle.std.specs.Prelude.{ℕ, ◌≡◌, cond, List}
+use Rattle.std.specs.Prelude.{None, Option, Some, ℕ, ◌≡◌, cond, List}
 use Rattle.ids.specs.Ids.{management_port_lem}
 use Rattle.xgtc.specs.declared.hlend.Hlend.{Hlend}
 use Rattle.station.specs.declared.Station.{Station}
@@ -16,8 +16,6 @@ use Rattle.replies.specs.Replies.{replies_from}
 use Rattle.entries.specs.declared.Own.{Own}
 use Rattle.series.specs.Series.{Series, planned_of, last_end, carried_over_lem}
 use Rattle.bwmap.specs.declared.Plan.{Plan}
-use Rattle.bwmap.specs.declared.Planning.{Planning}
-use Rattle.bwmap.specs.declared.Planning.TheVariants.{Planned, PlanTooShort}
 use Rattle.plan.specs.Plan.{records, messages, written}
 use Rattle.payload.specs.declared.walk.Delineation.{Delineation}
 use Rattle.payload.specs.declared.walk.Delineation.TheVariants.{Kept, Lost, Unfit}
@@ -64,9 +62,9 @@ unfoldable pub planned_in : Station → Hlend → Arrival → List Series
 planned_in s h a = planned_of (own_of s) (map_of h a.octets) s.carried
 
 -- what the walk over the map answers; no plan that passed 3 is too short
-abbrev pub plan_of : Planning → Plan
-plan_of (Planned p) = p
-plan_of PlanTooShort = record { records = 0; bursts = 0; messages = 0; end = 0; carried = 0 }
+abbrev pub plan_of : Option Plan → Plan
+plan_of (Some p) = p
+plan_of None = record { records = 0; bursts = 0; messages = 0; end = 0; carried = 0 }
 
 -- each planned burst with PLOAMu sends one reply
 unfoldable pub replies_in : Station → List Series → Arrival → Lent → replied.RepliesLeft

@@ -4,6 +4,7 @@ ghost use Rattle.frame.specs.Given.{enough};
 
 pub const REPLY_OCTETS: usize = series::BURSTS_A_FRAME * ploam::MESSAGE_OCTETS;
 
+#[tactic(auto, unfolding(crate::specs::Given::enough))]
 pub(crate) fn enough(
     frame: usize,
     memory: usize,
@@ -13,20 +14,9 @@ pub(crate) fn enough(
 ) -> bool
     ensures { result ≡ enough frame memory plan replies deliveries }
 {
-    if memory < payload::MEMORY_BYTES {
-        return false;
-    }
-    if plan < plan::PLAN_NUMBERS {
-        return false;
-    }
-    if replies < REPLY_OCTETS {
-        return false;
-    }
-    if deliveries < payload::MEMORY_BYTES {
-        return false;
-    }
-    if deliveries - payload::MEMORY_BYTES < frame {
-        return false;
-    }
-    true
+    payload::MEMORY_BYTES <= memory
+        && plan::PLAN_NUMBERS <= plan
+        && REPLY_OCTETS <= replies
+        && payload::MEMORY_BYTES <= deliveries
+        && frame <= deliveries - payload::MEMORY_BYTES
 }

@@ -55,11 +55,10 @@ pub struct FrameOutcome {
 fn without(answer: Answer, s: Station) -> FrameOutcome
     ensures { result ≡ without answer s }
 {
-    let counts = Counts::none();
     FrameOutcome {
-        answer: answer,
+        answer,
         station: s,
-        counts: counts,
+        counts: Counts::none(),
     }
 }
 
@@ -73,12 +72,12 @@ fn answer_to(delineation: Delineation) -> Answer
     }
 }
 
-fn plan_of(answer: bwmap::Planning) -> Plan
+fn plan_of(answer: Option<Plan>) -> Plan
     ensures { result ≡ plan_of answer }
 {
     match answer {
-        bwmap::Planning::Planned(p) => p,
-        bwmap::Planning::PlanTooShort => Plan {
+        Some(p) => p,
+        None => Plan {
             records: 0,
             bursts: 0,
             messages: 0,
@@ -88,22 +87,24 @@ fn plan_of(answer: bwmap::Planning) -> Plan
     }
 }
 
+// What of a station says which structures of a map are its own.
+pub fn own_of(s: Station) -> Own
+    ensures { result ≡ own_of s }
+{
+    Own {
+        activation: s.activation,
+        onu: s.link.onu,
+        allocs: s.link.allocs,
+    }
+}
+
 // The plan follows the state in which the frame arrived.
 fn plan_bursts(s: Station, map: &[u8], plan: &mut [u16]) -> Plan
     requires { plan_numbers ≤ length plan.old }
     ensures { (result ≡ counted s.carried (planned_of (own_of s) map.now s.carried))
         × (plan.new ≡ written (planned_of (own_of s) map.now s.carried) plan.old) }
 {
-    let arrived = s.activation;
-    let link = s.link;
-    let onu = link.onu;
-    let allocs = link.allocs;
-    let own = Own {
-        activation: arrived,
-        onu: onu,
-        allocs: allocs,
-    };
-    plan_of(bwmap::plan_map(map, own, s.carried, plan))
+    plan_of(bwmap::plan_map(map, own_of(s), s.carried, plan))
 }
 
 // Only a frame that arrives in O5 has its payload walked.
@@ -117,20 +118,16 @@ fn receive_payload(
     requires { (in_range s ≡ true) × (memory_bytes ≤ length memory.old) × (length payload.now + memory_bytes ≤ length deliveries.old) }
     ensures { record { receiver = record { ports = result.ports; bytes = result.bytes; memory = memory.new; deliveries = deliveries.new }; delineation = result.delineation } ≡ walked_from s place payload.now memory.old deliveries.old }
 {
-    let ports = s.ports;
-    let arrived = s.activation;
-    if !arrived.is_operating() {
+    if !s.activation.is_operating() {
         return Received {
-            ports: ports,
+            ports: s.ports,
             bytes: 0,
             delineation: Delineation::Kept,
         };
     }
-    let link = s.link;
-    let onu = link.onu;
     payload::receive(
-        ports,
-        onu.management_port(),
+        s.ports,
+        s.link.onu.management_port(),
         memory,
         deliveries,
         place,
@@ -157,22 +154,16 @@ fn handle(
     let p = plan_bursts(s, &frame[partitions::HLEND_OCTETS..map], plan);
     let sent = replies::reply_all(s, p.messages, random_delay, replies);
     let r = receive_payload(s, end, &frame[end..], memory, deliveries);
-    let ports = r.ports;
-    let found = sent.with_ports(ports).with_carried(p.carried);
+    let found = sent.with_ports(r.ports).with_carried(p.carried);
     let acted = messages::receive_all(found, &frame[map..end]);
-    let arrived = s.activation;
-    let ended = timing::frame_end(acted, arrived.is_ranging());
-    let delineation = r.delineation;
-    let answer = answer_to(delineation);
-    let counts = Counts {
-        records: p.records,
-        replies: p.messages,
-        bytes: r.bytes,
-    };
     FrameOutcome {
-        answer: answer,
-        station: ended,
-        counts: counts,
+        answer: answer_to(r.delineation),
+        station: timing::frame_end(acted, s.activation.is_ranging()),
+        counts: Counts {
+            records: p.records,
+            replies: p.messages,
+            bytes: r.bytes,
+        },
     }
 }
 

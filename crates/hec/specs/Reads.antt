@@ -1,14 +1,9 @@
 -- What reading a protected word gives: the true word of its length at most two bits away.
 -- Assumes nothing.
-use Rattle.std.specs.Prelude.{◌≡◌, cond, ℕ, zero, suc, ◌^◌, ◌≤◌}
+use Rattle.std.specs.Prelude.{None, Option, Some, ◌≡◌, cond, ℕ, zero, suc, ◌^◌, ◌≤◌}
 use Rattle.std.specs.Int.Bits.{bit_xor}
 use Rattle.bch.specs.Code.{TrueWord, distance, is_true}
-use Rattle.hec.specs.declared.Word32.{Word32}
-use Rattle.hec.specs.declared.Word64.{Word64}
-use Rattle.hec.specs.declared.Reading32.{Reading32}
-use Rattle.hec.specs.declared.Reading32.TheVariants.{Word as Word-32, Unreadable as Unreadable-32}
-use Rattle.hec.specs.declared.Reading64.{Reading64}
-use Rattle.hec.specs.declared.Reading64.TheVariants.{Word as Word-64, Unreadable as Unreadable-64}
+use Rattle.hec.specs.declared.Word.{Word}
 
 pub data Reading : Type 0 where
   word : ℕ → Reading
@@ -33,11 +28,7 @@ mended (suc n) (suc m) w = or_else (mended n (suc m) w) (mended n m (bit_xor w (
 abbrev pub reading : ℕ → ℕ → Reading
 reading n w = mended n 2 w
 
--- the code's two answers, one for each length
-abbrev pub found32 : Reading32 → Reading
-found32 (Word-32 w) = word w.0
-found32 Unreadable-32 = unreadable
-
-abbrev pub found64 : Reading64 → Reading
-found64 (Word-64 w) = word w.0
-found64 Unreadable-64 = unreadable
+-- the code's answer, of either length
+abbrev pub found_word : Option (Word ℕ) → Reading
+found_word (Some w) = word w.0
+found_word None = unreadable

@@ -1,15 +1,15 @@
 // A damaged word: what is left of it when the bits that its remainder points to are flipped.
 ghost use Rattle.std.specs.Prelude.{◌≡◌};
-ghost use Rattle.hec.specs.Reads.{found64};
+ghost use Rattle.hec.specs.Reads.{found_word};
 ghost use Rattle.hec.specs.Mends.{mended_as};
 
-use super::{Reading64, Word64};
+use super::{Word, Word64};
 
 // 63 stands for no place, and the bit that it names falls out of the word: which places a damaged word needs is nothing to
 // be guessed by a branch. The last bit is flipped where the code bits leave the number of ones odd; all flips are two at most
 // just where the code bits and an odd number of ones are.
-pub(crate) fn mend(flips: u16, word: u64, s: u16) -> Reading64
-    ensures { found64 result ≡ mended_as flips word s }
+pub(crate) fn mend(flips: u16, word: u64, s: u16) -> Option<Word64>
+    ensures { found_word result ≡ mended_as flips word s }
 {
     let count = flips / 4096 + s / 4096 % 2;
     if count <= 2 {
@@ -17,8 +17,8 @@ pub(crate) fn mend(flips: u16, word: u64, s: u16) -> Reading64
         let second = (flips / 64 % 64) as usize;
         let bits: u64 = (2 << first) ^ (2 << second);
         let last = count % 2;
-        Reading64::Word(Word64(word ^ (bits ^ last as u64)))
+        Some(Word(word ^ (bits ^ last as u64)))
     } else {
-        Reading64::Unreadable
+        None
     }
 }

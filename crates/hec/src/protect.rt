@@ -8,14 +8,11 @@ ghost use Rattle.hec.specs.Writes.{closed, protected};
 fn remainder_of(code: u64) -> u16
     ensures { result ≡ remainder code }
 {
-    let table = bch::remainders::table();
-    let mut sum: u16 = 0;
+    let mut sum = 0;
     let mut left = code;
-    let mut place: usize = 0;
-    while place < 63 {
-        sum = sum ^ ((left % 2) as u16 * table[place]);
-        left = left / 2;
-        place += 1;
+    for value in bch::remainders::table() {
+        sum ^= (left % 2) as u16 * *value;
+        left /= 2;
     }
     sum
 }
@@ -24,7 +21,7 @@ fn remainder_of(code: u64) -> u16
 pub(crate) fn syndrome(word: u64) -> u16
     ensures { result ≡ syndrome word }
 {
-    (u64::count_ones(word) % 2) as u16 * 4096 + remainder_of(word / 2)
+    (word.count_ones() % 2) as u16 * 4096 + remainder_of(word / 2)
 }
 
 // A codeword with the bit behind it that makes the number of ones even.
@@ -32,7 +29,7 @@ fn closed(code: u64) -> u64
     requires { code < 2 ^ 63 }
     ensures { result ≡ closed code }
 {
-    code * 2 + (u64::count_ones(code) % 2) as u64
+    code * 2 + (code.count_ones() % 2) as u64
 }
 
 pub(crate) fn protected(bits: u64) -> u64

@@ -22,16 +22,17 @@ fn settle(answer: Answer, was: Station, next: Station) -> Outcome
 {
     if is_done(answer) {
         return Outcome {
-            answer: answer,
+            answer,
             station: next,
         };
     }
     Outcome {
-        answer: answer,
+        answer,
         station: was,
     }
 }
 
+#[tactic(auto, unfolding(crate::specs::Host::answer_to_add_lem))]
 fn answer_to_add(s: Station, port: PortId) -> Answer
     ensures { result ≡ answer_to_add_lem s port }
 {
@@ -41,18 +42,16 @@ fn answer_to_add(s: Station, port: PortId) -> Answer
     if !port.is_assignable() {
         return Answer::PortOutOfRange;
     }
-    let ports = s.ports;
-    let place = ports.place(port);
-    if place.is_held() {
+    if s.ports.place(port).is_some() {
         return Answer::PortHeldOrNotHeld;
     }
-    let vacancy = ports.vacancy();
-    if vacancy.is_held() {
+    if s.ports.vacancy().is_some() {
         return Answer::Done;
     }
     Answer::SlotsTaken
 }
 
+#[tactic(auto, unfolding(crate::specs::Host::answer_to_remove_lem))]
 fn answer_to_remove(s: Station, port: PortId) -> Answer
     ensures { result ≡ answer_to_remove_lem s port }
 {
@@ -62,53 +61,52 @@ fn answer_to_remove(s: Station, port: PortId) -> Answer
     if !port.is_assignable() {
         return Answer::PortOutOfRange;
     }
-    let ports = s.ports;
-    let place = ports.place(port);
-    if place.is_held() {
+    if s.ports.place(port).is_some() {
         return Answer::Done;
     }
     Answer::PortHeldOrNotHeld
 }
 
+#[tactic(auto, unfolding(crate::specs::Host::answer_to_key_lem))]
 fn answer_to_key(s: Station) -> Answer
     ensures { result ≡ answer_to_key_lem s }
 {
     if !validity::in_range(s) {
         return Answer::StateOutOfRange;
     }
-    let activation = s.activation;
-    if activation.holds_identity() {
+    if s.activation.holds_identity() {
         return Answer::Done;
     }
     Answer::KeyRefused
 }
 
 // The port is added in the lowest empty slot, and waits.
+#[tactic(auto, unfolding(crate::specs::Host::after_add))]
 pub fn add_port(s: Station, port: PortId) -> Outcome
     ensures { AddLeaves s port result }
 {
-    let answer = answer_to_add(s, port);
-    let ports = s.ports;
-    settle(answer, s, s.with_ports(ports.add(port)))
+    settle(answer_to_add(s, port), s, s.with_ports(s.ports.add(port)))
 }
 
+#[tactic(auto, unfolding(crate::specs::Host::after_remove))]
 pub fn remove_port(s: Station, port: PortId) -> Outcome
     ensures { RemoveLeaves s port result }
 {
-    let answer = answer_to_remove(s, port);
-    let ports = s.ports;
-    settle(answer, s, s.with_ports(ports.remove(port)))
+    settle(
+        answer_to_remove(s, port),
+        s,
+        s.with_ports(s.ports.remove(port)),
+    )
 }
 
 // The key replaces one held, and counts from the next call on.
+#[tactic(auto, unfolding(crate::specs::Host::after_key))]
 pub fn give_key(s: Station, octets: [u8; 16]) -> Outcome
     ensures { KeyLeaves s octets result }
 {
-    let answer = answer_to_key(s);
-    let link = s.link;
     settle(
-        answer,
+        answer_to_key(s),
         s,
-        s.with_link(link.with_key(Key::installed(octets))),
+        s.with_link(s.link.with_key(Key::installed(octets))),
     )
 }

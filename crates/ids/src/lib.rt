@@ -2,42 +2,23 @@
 // kind has a type of its own, and the only ways from one to another are the two that the clause allows.
 #![tactic(auto)]
 
-ghost use Rattle.std.specs.Prelude.{◌≡◌};
+ghost use Rattle.std.specs.Prelude.{◌≡◌, length};
 ghost use Rattle.ids.specs.Ids.{default_alloc_lem, management_port_lem};
 ghost use Rattle.ids.specs.Ids.{broadcast_onu, broadcast_alloc, idle_port};
 ghost use Rattle.ids.specs.Ids.{within, assignable_onu, assignable_alloc, assignable_port};
-ghost use Rattle.ids.specs.Ids.{same_onu, same_alloc, same_port};
-ghost use Rattle.ids.specs.Places.{is_held};
+ghost use Rattle.ids.specs.Places.{place_from, Below};
 
 // Names a station on the branch: 10 bits.
-#[derive(Clone, Copy)]
+#[derive(Clone, Copy, PartialEq, Eq)]
 pub struct OnuId(pub u16);
 
 // Names a recipient of upstream grants: 14 bits.
-#[derive(Clone, Copy)]
+#[derive(Clone, Copy, PartialEq, Eq)]
 pub struct AllocId(pub u16);
 
 // Names an XGEM port: 16 bits.
-#[derive(Clone, Copy)]
+#[derive(Clone, Copy, PartialEq, Eq)]
 pub struct PortId(pub u16);
-
-// Where an identifier stands in a list, if it does.
-#[derive(Clone, Copy)]
-pub enum Place {
-    At(usize),
-    Nowhere,
-}
-
-impl Place {
-    pub fn is_held(self) -> bool
-        ensures { result ≡ is_held self }
-    {
-        match self {
-            Place::At(_) => true,
-            Place::Nowhere => false,
-        }
-    }
-}
 
 // Table 6-1: the last ONU-ID that a station can have, and the one above it, the broadcast address and that of a
 // station that has none.
@@ -59,6 +40,19 @@ const LAST_PORT: u16 = 65534;
 
 const IDLE_PORT: u16 = 65535;
 
+// The place of the first x of a list, if it has one.
+#[inline]
+pub fn place_of<T: Copy + PartialEq>(list: &[T], x: T) -> Option<usize>
+    ensures { (result ≡ place_from (T.eq x) 0 list.now) × (Below result (length list.now)) }
+{
+    for (place, other) in list.iter().enumerate() {
+        if x == *other {
+            return Some(place);
+        }
+    }
+    None
+}
+
 fn within(first: u16, last: u16, id: u16) -> bool
     ensures { result ≡ within first last id }
 {
@@ -76,12 +70,6 @@ impl OnuId {
         ensures { result ≡ assignable_onu self }
     {
         self.0 <= LAST_ONU
-    }
-
-    pub fn is(self, other: OnuId) -> bool
-        ensures { result ≡ same_onu self other }
-    {
-        self.0 == other.0
     }
 
     pub fn default_alloc(self) -> AllocId
@@ -109,12 +97,6 @@ impl AllocId {
     {
         within(FIRST_ALLOC, LAST_ALLOC, self.0)
     }
-
-    pub fn is(self, other: AllocId) -> bool
-        ensures { result ≡ same_alloc self other }
-    {
-        self.0 == other.0
-    }
 }
 
 impl PortId {
@@ -128,11 +110,5 @@ impl PortId {
         ensures { result ≡ assignable_port self }
     {
         within(FIRST_PORT, LAST_PORT, self.0)
-    }
-
-    pub fn is(self, other: PortId) -> bool
-        ensures { result ≡ same_port self other }
-    {
-        self.0 == other.0
     }
 }

@@ -1,6 +1,6 @@
 -- Rows that are laid one behind the other come out again, and their tags are those of the messages.
 -- Assumes nothing.
-use Prim.Native.Nat.{ℕ, zero, suc, min, ◌+◌, ◌*◌, ◌/◌, ◌%◌, ◌≤◌, ◌<◌}
+use Prim.Native.Nat.{ℕ, zero, suc, ◌+◌, ◌*◌, ◌/◌, ◌%◌, ◌≤◌, ◌<◌}
 use mathlib.Core.Path.{◌≡◌, ◌∙◌, refl, sym, ap, ap₂}
 use mathlib.Core.Bool.{Bool, true, false, cond, ◌&&◌}
 use mathlib.Core.List.{List, [], ◌∷◌, ◌++◌, append_assoc, append-nil}
@@ -8,21 +8,20 @@ use native.Mathlib.Nat.{mul-div_cancel, mul_comm}
 use native.Mathlib.Numerals.{add-one}
 use native.Mathlib.Omega.{arith}
 use native.Mathlib.Decide.{dec_lt}
-use borrow.Author.Tests.{lt-ltb, le-ltb, lt-leb, le-leb}
+use borrow.Author.Tests.{lt-ltb, le-ltb, lt-leb}
 use borrow.Author.Count.{below_more}
 use lib.Dec.{ltb, leb}
 use lib.ListN.{length, set, take, drop, replicate, length-take, length-drop}
 use lib.Seq.{paste, length-paste, take-take, take_at, drop_at, take_all, length-take-le, take-suc-set, drop-set-lt}
 use Rattle.aes.specs.Cipher.{at}
 use Rattle.aes.specs.Words.{octets_of}
-use Rattle.aes.specs.Blocks.{block_in, each}
+use Rattle.aes.specs.Blocks.{block_in}
 use Rattle.aes.specs.declared.Words.{Words}
 use Rattle.aes.proofs.Each.{block_worked}
 use Rattle.cmac.specs.Tags.{message_of, tag_by, tags_by, mac64_by}
 use Rattle.cmac.specs.declared.Prepared.{Prepared}
-use Rattle.ploam.specs.Layout.{message_octets, covered_octets, message_at, mic_field}
+use Rattle.ploam.specs.Layout.{covered_octets, message_at, mic_field}
 use Rattle.integrity.specs.Integrity.{covered, same, mic_right_by}
-use Rattle.integrity.specs.Rights.{mark_of_lem}
 use Rattle.integrity.specs.Rows.{covered_in, Rows, has_field}
 use Rattle.integrity.specs.declared.Direction.TheVariants.{Downstream}
 
@@ -37,14 +36,13 @@ laid : (d s : List ℕ) (at n : ℕ) → paste d at s n ≡ take at d ++ (take n
 laid d s at n = append_assoc (take at d) (take n s) (drop (at + n) d)
 
 -- a code and what follows it
-pub code_first : (d m : List ℕ) (code at : ℕ) → at + 41 ≤ length d → 40 ≤ length m
-    → paste (set d at code) (at + 1) m 40 ≡ paste d at (code ∷ take 40 m) 41
-code_first d m code at h hm =
+pub code_first : (d m : List ℕ) (code at : ℕ) → at + 41 ≤ length d
+    → paste (set d at code) (at + 1) (take 40 m) 40 ≡ paste d at (code ∷ take 40 m) 41
+code_first d m code at h =
     let e : at + 1 + 40 ≡ at + 41 = omega arith in
-    let all : take 40 (take 40 m) ≡ take 40 m = take-take 40 40 m (omega arith) in
-    laid (set d at code) m (at + 1) 40
+    laid (set d at code) (take 40 m) (at + 1) 40
     ∙ ap₂ ◌++◌ (ap (λ (k : ℕ). take k (set d at code)) (add-one at) ∙ take-suc-set d at code (omega arith))
-    (ap₂ ◌++◌ (sym all) (ap (λ (k : ℕ). drop k (set d at code)) e ∙ drop-set-lt (at + 41) d at code (omega arith)))
+    (ap (◌++◌ (take 40 (take 40 m))) (ap (λ (k : ℕ). drop k (set d at code)) e ∙ drop-set-lt (at + 41) d at code (omega arith)))
     ∙ append_assoc (take at d) (code ∷ []) (take 40 (take 40 m) ++ drop (at + 41) d)
     ∙ sym (laid d (code ∷ take 40 m) at 41)
 

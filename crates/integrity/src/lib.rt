@@ -1,7 +1,7 @@
 // The integrity check of a PLOAM message (G.987.3, clause 15.6), and which key it is made with.
 #![tactic(auto)]
 
-ghost use Rattle.std.specs.Prelude.{◌≡◌, ◌∷◌, ◌+◌, ◌*◌, ◌≤◌, length, take};
+ghost use Rattle.std.specs.Prelude.{◌≡◌, ◌∷◌, ◌+◌, ◌*◌, ◌/◌, ◌<◌, ◌≤◌, length, take, MatchOption};
 ghost use Rattle.std.proofs.Math.Seq.{paste};
 ghost use Rattle.aes.specs.Words.{words_of};
 ghost use Rattle.aes.specs.Blocks.{most_blocks};
@@ -53,11 +53,7 @@ fn cover(code: u8, m: &[u8], rows: &mut [u8], at: usize)
     ensures { rows.new ≡ paste rows.old at (code ∷ take covered_octets m.now) row_octets }
 {
     rows[at] = code;
-    let mut i: usize = 0;
-    while i < COVERED_OCTETS {
-        rows[at + 1 + i] = m[i];
-        i += 1;
-    }
+    rows[at + 1..at + ROW_OCTETS].copy_from_slice(&m[..COVERED_OCTETS]);
 }
 
 fn with_code(code: u8, m: &[u8]) -> [u8; 41]
@@ -88,14 +84,7 @@ fn has_mic(m: &[u8], mic: [u8; 8]) -> bool
     requires { message_octets ≤ length m.now }
     ensures { result ≡ same (mic_field m.now) mic }
 {
-    let mut i: usize = 0;
-    while i < 8 {
-        if m[COVERED_OCTETS + i] != mic[i] {
-            return false;
-        }
-        i += 1;
-    }
-    true
+    &m[COVERED_OCTETS..MESSAGE_OCTETS] == mic.as_slice()
 }
 
 pub fn mic_right(key: Prepared, direction: Direction, m: &[u8]) -> bool
@@ -107,28 +96,33 @@ pub fn mic_right(key: Prepared, direction: Direction, m: &[u8]) -> bool
     has_mic(m, mic(key, direction, m))
 }
 
-// A place past the last whole message has no row.
+// The message at a place; past the last whole message there is none.
+fn message(messages: &[u8], place: usize) -> Option<&[u8]>
+    ensures { MatchOption result (length messages.now / message_octets ≤ place)
+        (λ m. (place < length messages.now / message_octets) × (m.now ≡ message_at messages.now place)) }
+{
+    if messages.len() / MESSAGE_OCTETS <= place {
+        return None;
+    }
+    let from = MESSAGE_OCTETS * place;
+    Some(&messages[from..from + MESSAGE_OCTETS])
+}
+
 fn cover_at(messages: &[u8], place: usize, rows: &mut [u8], at: usize)
     requires { at + row_octets ≤ length rows.old }
     ensures { rows.new ≡ covered_in messages.now place rows.old at }
 {
-    if messages.len() / MESSAGE_OCTETS <= place {
-        return;
+    if let Some(m) = message(messages, place) {
+        cover(direction_code(Direction::Downstream), m, rows, at);
     }
-    let from = MESSAGE_OCTETS * place;
-    let to = from + MESSAGE_OCTETS;
-    let code = direction_code(Direction::Downstream);
-    cover(code, &messages[from..to], rows, at);
 }
 
 fn cover_each(messages: &[u8], places: [usize; 8], n: usize, rows: &mut [u8])
     requires { (n ≤ most_blocks) × (n * row_octets ≤ length rows.old) }
     ensures { (Rows messages.now places n rows.new) × (length rows.new ≡ length rows.old) }
 {
-    let mut j: usize = 0;
-    while j < n {
+    for j in 0..n {
         cover_at(messages, places[j], rows, j * ROW_OCTETS);
-        j += 1;
     }
 }
 
@@ -136,12 +130,10 @@ fn cover_each(messages: &[u8], places: [usize; 8], n: usize, rows: &mut [u8])
 fn right_at(messages: &[u8], place: usize, mic: [u8; 8]) -> bool
     ensures { result ≡ has_field mic (message_at messages.now place) }
 {
-    if messages.len() / MESSAGE_OCTETS <= place {
-        return false;
+    match message(messages, place) {
+        Some(m) => has_mic(m, mic),
+        None => false,
     }
-    let from = MESSAGE_OCTETS * place;
-    let to = from + MESSAGE_OCTETS;
-    has_mic(&messages[from..to], mic)
 }
 
 fn mark_of(right: bool) -> u8
@@ -163,11 +155,9 @@ pub fn rights(key: Prepared, messages: &[u8], places: [usize; 8], count: usize) 
     cover_each(messages, places, n, &mut rows);
     let end = n * ROW_OCTETS;
     let tags = cmac::tags(key, &rows[..end], n);
-    let mut j: usize = 0;
-    while j < n {
+    for j in 0..n {
         let mic = cmac::first_octets(aes::block(&tags, j));
         marks[j] = mark_of(right_at(messages, places[j], mic));
-        j += 1;
     }
     marks
 }
@@ -175,22 +165,13 @@ pub fn rights(key: Prepared, messages: &[u8], places: [usize; 8], count: usize) 
 fn downstream_by_default(address: OnuId, kind: u8) -> bool
     ensures { result ≡ downstream_by_default_lem address kind }
 {
-    if address.is(OnuId::broadcast()) {
-        return true;
-    }
-    if kind == DEACTIVATE_ONU_ID {
-        return true;
-    }
-    kind == REQUEST_REGISTRATION
+    address == OnuId::broadcast() || kind == DEACTIVATE_ONU_ID || kind == REQUEST_REGISTRATION
 }
 
 fn upstream_by_default(kind: u8) -> bool
     ensures { result ≡ upstream_by_default_lem kind }
 {
-    if kind == SERIAL_NUMBER_ONU {
-        return true;
-    }
-    kind == REGISTRATION
+    kind == SERIAL_NUMBER_ONU || kind == REGISTRATION
 }
 
 pub fn by_default(direction: Direction, address: OnuId, kind: u8) -> bool
@@ -210,15 +191,13 @@ pub fn genuine(usual: Prepared, installed: Prepared, m: &[u8]) -> bool
     if m.len() < MESSAGE_OCTETS {
         return false;
     }
-    if by_default(
-        Direction::Downstream,
-        ploam::reading::address(m[0], m[1]),
-        m[2],
-    ) {
-        mic_right(usual, Direction::Downstream, m)
+    let address = ploam::reading::address(m[0], m[1]);
+    let key = if by_default(Direction::Downstream, address, m[2]) {
+        usual
     } else {
-        mic_right(installed, Direction::Downstream, m)
-    }
+        installed
+    };
+    mic_right(key, Direction::Downstream, m)
 }
 
 // The default key of 15.8.1, sixteen octets 0x55, prepared. That these are its subkeys is proved, not trusted.

@@ -4,6 +4,8 @@
 use Prim.Native.Nat.{ℕ}
 use mathlib.Core.Path.{◌≡◌, ◌∙◌, sym}
 use mathlib.Core.List.{List}
+use Rattle.std.specs.Prelude.{Option}
+use Rattle.ploamu.specs.declared.UpstreamMessage.{UpstreamMessage}
 use Rattle.ids.specs.declared.PortId.{PortId}
 use Rattle.ploam.specs.declared.Message.{Message}
 use Rattle.station.specs.declared.Station.{Station}
@@ -12,7 +14,6 @@ use Rattle.host.specs.Host.{AddLeaves, RemoveLeaves, KeyLeaves}
 use Rattle.effects.specs.declared.Effect.{Effect}
 use Rattle.effects.specs.Changes.{Applies}
 use Rattle.decisions.specs.Acts.{Decides}
-use Rattle.replies.specs.declared.replying.Reply.{Reply}
 use Rattle.messages.specs.Receiving.{AllReceived}
 use Rattle.replies.specs.Replying.{Replies, Leaves}
 use Rattle.replies.specs.Replies.{RepliesLeft, Replied}
@@ -35,7 +36,7 @@ apply_determined s e a b x y = x ∙ sym y
 pub receive_determined : (s : Station) (m : List ℕ) (a b : Station) → AllReceived s m a → AllReceived s m b → a ≡ b
 receive_determined s m a b x y = x ∙ sym y
 
-pub reply_determined : (s : Station) (d : ℕ) (a b : Reply) → Replies s d a → Replies s d b → a ≡ b
+pub reply_determined : (s : Station) (d : ℕ) (a b : Option UpstreamMessage) → Replies s d a → Replies s d b → a ≡ b
 reply_determined s d a b x y = x ∙ sym y
 
 pub after_reply_determined : (s a b : Station) → Leaves s a → Leaves s b → a ≡ b

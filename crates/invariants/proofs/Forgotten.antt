@@ -7,10 +7,10 @@ use mathlib.Core.List.{List, [], ◌∷◌}
 use mathlib.Core.Bool.{Bool, true, false, not, cond, true≢false, false≢true}
 use lib.Dec.{leb}
 use lib.ListN.{replicate}
+use Rattle.std.specs.Prelude.{None, Option, Some}
+use Rattle.link.specs.declared.Owed.{Owed}
 use Rattle.ids.specs.declared.PortId.{PortId}
 use Rattle.ploam.specs.declared.Message.{Message}
-use Rattle.ploam.specs.declared.Received.{Received}
-use Rattle.ploam.specs.declared.Received.TheVariants.{Whole, Short}
 use Rattle.station.specs.declared.Activation.{Activation}
 use Rattle.station.specs.declared.Activation.TheVariants.{Initial, SerialNumber, Ranging, Operation, Intermittent, EmergencyStop}
 use Rattle.station.specs.declared.Station.{Station}
@@ -23,8 +23,6 @@ use Rattle.station.specs.Station.{power_on_lem, enter, with_activation_lem, with
 use Rattle.timing.specs.Timing.{count_to1_lem, count_to2_lem, end_from, frame_end_lem, silence, lost_from, lost_state_lem, lost_time_lem, unread_from, unread_state_lem, unread_time_lem}
 use Rattle.effects.specs.declared.Change.{Change}
 use Rattle.effects.specs.declared.Change.TheVariants.{Keep, Identify, Range, Delay, AddAlloc, RemoveAlloc, Enter}
-use Rattle.effects.specs.declared.Debt.{Debt}
-use Rattle.effects.specs.declared.Debt.TheVariants.{Free, Owes}
 use Rattle.effects.specs.declared.Effect.{Effect}
 use Rattle.effects.specs.Changes.{identify, range, set_delay_lem, apply_change_lem, apply_debt_lem, applied}
 use Rattle.decisions.specs.Decisions.{decision}
@@ -141,9 +139,9 @@ still_identified s (RemoveAlloc id) i t = i
 still_identified s (Enter a) i t = absurd (false≢true t)
 
 debt_forgotten
-    : (s : Station) (c : Change) (d : Debt) → ValidDebt s c d → Forgotten (apply_change_lem s c) → Forgotten (apply_debt_lem (apply_change_lem s c) d)
-debt_forgotten s c Free v f = f
-debt_forgotten s c (Owes answer) v f =
+    : (s : Station) (c : Change) (d : Option Owed) → ValidDebt s c d → Forgotten (apply_change_lem s c) → Forgotten (apply_debt_lem (apply_change_lem s c) d)
+debt_forgotten s c None v f = f
+debt_forgotten s c (Some answer) v f =
     let t = apply_change_lem s c in
     identified t (still_identified s c v.0 v.1) (with_owed_lem t.link (owe t.link.owed answer))
 
@@ -159,9 +157,9 @@ act-forgotten s g m f = rw (order_of_tests s g m) (go g)
     go true = applied-forgotten s (decision s m) (decision-valid s m) f
     go false = f
 
-acting-forgotten : (s : Station) (g : Bool) (r : Received) → Forgotten s → Forgotten (acting s g r)
-acting-forgotten s g (Whole message) f = act-forgotten s g message f
-acting-forgotten s g Short f = f
+acting-forgotten : (s : Station) (g : Bool) (r : Option Message) → Forgotten s → Forgotten (acting s g r)
+acting-forgotten s g (Some message) f = act-forgotten s g message f
+acting-forgotten s g None f = f
 
 receive-forgotten : (s : Station) (m : List ℕ) → Forgotten s → Forgotten (receive s m)
 unfolding receive

@@ -7,20 +7,18 @@ use mathlib.Core.Bool.{Bool, true, false, not, cond, false≢true, true≢false}
 use native.Mathlib.Omega.{arith}
 use lib.ListN.{length, length-set}
 use borrow.Author.Tests.{not-false}
+use Rattle.std.specs.Prelude.{None, Option, Some, ℕ}
 use Rattle.ids.specs.declared.PortId.{PortId}
 use Rattle.ids.specs.Ids.{assignable_port, same_port}
 use Rattle.station.specs.declared.Station.{Station}
-use Rattle.ids.specs.declared.Place.{Place}
-use Rattle.ids.specs.declared.Place.TheVariants.{At, Nowhere}
 use Rattle.ports.specs.declared.Ports.{Ports}
 use Rattle.ports.specs.Limits.{added_ports, slots}
-use Rattle.ids.specs.Places.{some}
+use Rattle.ids.specs.Places.{some, is_held}
 use Rattle.link.specs.Link.{with_key_lem, installed}
 use Rattle.ports.specs.Ports.{no_port, port_place, vacancy, put_port_lem, add_port_lem, remove_port_lem}
 use Rattle.station.specs.Station.{with_link_lem, with_ports_lem}
 use Rattle.ids.proofs.Places.{place-below}
 use Rattle.validity.specs.Ranges.{held, ports_fit_lem, partials_fit_lem, in_range}
-use Rattle.ids.specs.Places.{is_held}
 use Rattle.host.specs.Host.{done, answer_to_add_lem, answer_to_remove_lem, answer_to_key_lem, after_add, after_remove, after_key}
 use Rattle.host.specs.Host as host
 use Rattle.answers.specs.declared.Answer.TheVariants.{Done, StateOutOfRange, PortOutOfRange, PortHeldOrNotHeld, SlotsTaken}
@@ -55,22 +53,22 @@ Comes : Station → PortId → Type 0
 Comes s p = same_port p no_port ≡ false → (assignable_port p ≡ true) × (some (same_port p) (held s.ports.ids) ≡ false)
 
 put-sound
-    : (s : Station) (p q : PortId) (x : Place) → port_place s.ports q ≡ x → Comes s p → Sound s
+    : (s : Station) (p q : PortId) (x : Option ℕ) → port_place s.ports q ≡ x → Comes s p → Sound s
     → Sound (with_ports_lem s (put_port_lem s.ports p x))
 unfolding ports_fit_lem Comes
-put-sound s p q (At i) e v f =
+put-sound s p q (Some i) e v f =
     let ids = s.ports.ids in
     let below = place-below (same_port q) 0 ids i e in
     let l = f.ports_long in
     let h : i + 1 < slots = omega arith in
-    with_ports_sound s (put_port_lem s.ports p (At i))
+    with_ports_sound s (put_port_lem s.ports p (Some i))
     (length-set ids i p ∙ f.ports_long)
     (length-set s.ports.lengths (i + 1) 0 ∙ f.lengths_long)
     (length-set s.ports.waiting (i + 1) true ∙ f.waiting_long)
     (set-fine ids i p f.ports v)
     (slot-changed ids s.ports.lengths s.ports.waiting i p f.lengths_long f.waiting_long h f.partials)
     f
-put-sound s p q Nowhere e v f = f
+put-sound s p q None e v f = f
 
 settled : (b : Bool) (was next : Station) → Sound was → (b ≡ true → Sound next) → Sound (cond b next was)
 settled true was next f g = g refl

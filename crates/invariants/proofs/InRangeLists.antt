@@ -10,22 +10,20 @@ use lib.ListN.{length, set, length-set, length-append, length-take, length-drop}
 use lib.Seq.{take-suc-set}
 use lib.Dec.{eqb, leb}
 use borrow.Author.Tests.{leb-true, leb-false, le-leb}
+use Rattle.std.specs.Prelude.{None, Option, Some, ℕ}
 use Rattle.ids.specs.declared.AllocId.{AllocId}
 use Rattle.ids.specs.Ids.{assignable_alloc, same_alloc}
 use Rattle.station.specs.declared.Station.{Station}
 use Rattle.link.specs.declared.Allocs.{Allocs}
 use Rattle.link.specs.declared.Owed.{Owed}
 use Rattle.link.specs.declared.Queue.{Queue}
-use Rattle.ids.specs.declared.Place.{Place}
-use Rattle.ids.specs.declared.Place.TheVariants.{At, Nowhere}
 use Rattle.link.specs.Limits.{added_allocs, most_owed}
-use Rattle.ids.specs.Places.{some}
+use Rattle.ids.specs.Places.{some, is_held}
 use Rattle.link.specs.Lists.{close_up}
 use Rattle.link.specs.Link.{no_alloc, blank, held_allocs, alloc_place, add_alloc, remove_at, owe, paid, with_allocs_lem, with_owed_lem}
 use Rattle.station.specs.Station.{with_link_lem}
 use Rattle.ids.proofs.Places.{place-held}
 use Rattle.validity.specs.Ranges.{proper, allocs_fit_lem}
-use Rattle.ids.specs.Places.{is_held}
 use Rattle.validity.proofs.Tests.{both, join}
 use Rattle.invariants.proofs.Lists.{found_some, proper-snoc, proper-without, closed_up}
 use Rattle.invariants.proofs.Slots.{eqb_comm}
@@ -115,11 +113,11 @@ module _ (a : Allocs) (long : length a.ids ≡ added_allocs) (t : allocs_fit_lem
         join (leb (a.count - 1) added_allocs) _ (le-leb (a.count - 1) added_allocs (omega arith))
         (rw (closed_up no_alloc i a.count a.ids h (omega arith)) (proper-without assignable_alloc same_alloc i (held_allocs a) all_proper))
 
-    pub removed : (p : Place) → alloc_place a id ≡ p → (allocs_fit_lem (remove_at a p) ≡ true) × (length (remove_at a p).ids ≡ added_allocs)
-    removed (At i) e =
+    pub removed : (p : Option ℕ) → alloc_place a id ≡ p → (allocs_fit_lem (remove_at a p) ≡ true) × (length (remove_at a p).ids ≡ added_allocs)
+    removed (Some i) e =
         let h = place-held (same_alloc id) a.count a.ids i e in
         (less i h.0, length-closed no_alloc i a.ids h.1 ∙ long)
-    removed Nowhere e = (t, long)
+    removed None e = (t, long)
 
 pub owed_more : (q : Queue) (o : Owed) → length q.answers ≡ most_owed → leb q.count most_owed ≡ true → (length (owe q o).answers ≡ most_owed) × (leb (owe q o).count most_owed ≡ true)
 owed_more q o l t = go (leb most_owed q.count) refl

@@ -5,11 +5,11 @@ use mathlib.Core.Path.{◌≡◌, ◌∙◌, refl}
 use mathlib.Core.List.{List, [], ◌∷◌}
 use mathlib.Core.Bool.{Bool, true, false, cond}
 use lib.ListN.{length-set}
+use Rattle.std.specs.Prelude.{None, Option, Some}
+use Rattle.link.specs.declared.Owed.{Owed}
 use Rattle.ids.specs.declared.OnuId.{OnuId}
 use Rattle.ids.specs.Ids.{assignable_onu}
 use Rattle.ploam.specs.declared.Message.{Message}
-use Rattle.ploam.specs.declared.Received.{Received}
-use Rattle.ploam.specs.declared.Received.TheVariants.{Whole, Short}
 use Rattle.ploam.specs.Reading.{received}
 use Rattle.integrity.specs.Integrity.{genuine, installed_key_lem}
 use Rattle.station.specs.declared.Activation.{Activation}
@@ -20,8 +20,6 @@ use Rattle.link.specs.Link.{alloc_place, add_alloc, remove_alloc, owe, paid}
 use Rattle.validity.specs.Ranges.{identity_fits_lem}
 use Rattle.effects.specs.declared.Change.{Change}
 use Rattle.effects.specs.declared.Change.TheVariants.{Keep, Identify, Range, Delay, AddAlloc, RemoveAlloc, Enter}
-use Rattle.effects.specs.declared.Debt.{Debt}
-use Rattle.effects.specs.declared.Debt.TheVariants.{Free, Owes}
 use Rattle.effects.specs.declared.Effect.{Effect}
 use Rattle.effects.specs.Changes.{identify, range, set_delay_lem, apply_change_lem, apply_debt_lem, applied}
 use Rattle.decisions.specs.Decisions.{decision}
@@ -104,9 +102,9 @@ change_sound s (RemoveAlloc id) v f =
     with_allocs_sound s (remove_alloc s.link.allocs id) a.1 a.0 f
 change_sound s (Enter a) v f = enter-sound s a v.0 v.1 f
 
-debt_sound : (s : Station) (d : Debt) → Sound s → Sound (apply_debt_lem s d)
-debt_sound s Free f = f
-debt_sound s (Owes answer) f =
+debt_sound : (s : Station) (d : Option Owed) → Sound s → Sound (apply_debt_lem s d)
+debt_sound s None f = f
+debt_sound s (Some answer) f =
     let q = owed_more s.link.owed answer f.answers-long f.owed in
     with_owed_sound s (owe s.link.owed answer) q.0 q.1 f
 
@@ -121,9 +119,9 @@ act-sound s g m f = rw (order_of_tests s g m) (go g)
     go true = applied-sound s (decision s m) (decision-valid s m) f
     go false = f
 
-acting-sound : (s : Station) (g : Bool) (r : Received) → Sound s → Sound (acting s g r)
-acting-sound s g (Whole message) f = act-sound s g message f
-acting-sound s g Short f = f
+acting-sound : (s : Station) (g : Bool) (r : Option Message) → Sound s → Sound (acting s g r)
+acting-sound s g (Some message) f = act-sound s g message f
+acting-sound s g None f = f
 
 receive-sound : (s : Station) (m : List ℕ) → Sound s → Sound (receive s m)
 unfolding receive

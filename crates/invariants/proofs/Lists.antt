@@ -7,12 +7,10 @@ use mathlib.Core.Bool.{Bool, true, false, ◌&&◌, ◌||◌, not, cond, false�
 use native.Mathlib.Omega.{arith}
 use lib.ListN.{length, get_or, take, drop, set}
 use lib.Seq.{take-append-le}
-use Rattle.ids.specs.Places.{place_from, some}
+use Rattle.std.specs.Prelude.{Some, ℕ}
+use Rattle.ids.specs.Places.{place_from, some, is_held}
 use Rattle.link.specs.Lists.{close_up}
-use Rattle.ids.specs.declared.Place.{Place}
-use Rattle.ids.specs.declared.Place.TheVariants.{At, Nowhere}
 use Rattle.validity.specs.Ranges.{proper, every}
-use Rattle.ids.specs.Places.{is_held}
 use Rattle.validity.proofs.Tests.{both, join, neither, nor, not_so, so_not}
 
 -- ---- a place is held where one of them passes
@@ -23,7 +21,7 @@ found_some f i (a ∷ l) = go (f a) (found_some f (i + 1) l)
   where
     go
         : (b : Bool) → is_held (place_from f (i + 1) l) ≡ some f l
-        → is_held (cond b (At i) (place_from f (i + 1) l)) ≡ (b || some f l)
+        → is_held (cond b (Some i) (place_from f (i + 1) l)) ≡ (b || some f l)
     go true e = refl
     go false e = e
 

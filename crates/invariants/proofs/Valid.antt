@@ -4,6 +4,8 @@ use Prim.Native.Nat.{ℕ}
 use mathlib.Core.Path.{◌≡◌, ◌∙◌, refl, sym, ap}
 use mathlib.Core.Bool.{Bool, true, false, ◌&&◌, ◌||◌, not, cond, false≢true}
 use lib.Dec.{eqb, leb}
+use Rattle.std.specs.Prelude.{None, Option, Some, ℕ}
+use Rattle.link.specs.declared.Owed.{Owed}
 use Rattle.ids.specs.declared.OnuId.{OnuId}
 use Rattle.ids.specs.declared.AllocId.{AllocId}
 use Rattle.ids.specs.Ids.{assignable_onu, assignable_alloc}
@@ -28,11 +30,7 @@ use Rattle.validity.specs.Ranges.{timer_fits_lem}
 use Rattle.validity.proofs.Tests.{both}
 use Rattle.effects.specs.declared.Change.{Change}
 use Rattle.effects.specs.declared.Change.TheVariants.{Keep, Identify, Range, Delay, AddAlloc, RemoveAlloc, Enter}
-use Rattle.effects.specs.declared.Debt.{Debt}
-use Rattle.effects.specs.declared.Debt.TheVariants.{Free, Owes}
 use Rattle.effects.specs.declared.Effect.{Effect}
-use Rattle.decisions.specs.declared.ranging.Target.{Target}
-use Rattle.decisions.specs.declared.ranging.Target.TheVariants.{To, Outside}
 use Rattle.effects.specs.Effects.{ignored, does, owes, answers}
 use Rattle.decisions.specs.Ranging.{absolute, moved, answered, unanswered, ranging_time_lem}
 use Rattle.decisions.specs.Decisions.{same_serial_lem, assign_onu_id_lem, alloc_change_lem, assign_alloc_id_lem, request_registration_lem, deactivate, switch_off_lem, switch_on_lem, switched, disable, unknown_type_lem, by_content_lem, is_broadcast, is_ours, effect_of, room, fitting, decision}
@@ -60,9 +58,9 @@ steady (AddAlloc id) = true
 steady (RemoveAlloc id) = true
 steady (Enter a) = false
 
-abbrev pub ValidDebt : Station → Change → Debt → Type 0
-ValidDebt s c Free = Unit {0}
-ValidDebt s c (Owes answer) = (holds_identity_lem s.activation ≡ true) × (steady c ≡ true)
+abbrev pub ValidDebt : Station → Change → Option Owed → Type 0
+ValidDebt s c None = Unit {0}
+ValidDebt s c (Some answer) = (holds_identity_lem s.activation ≡ true) × (steady c ≡ true)
 
 abbrev pub Valid : Station → Effect → Type 0
 Valid s e = (ValidChange s e.change) × (ValidDebt s e.change e.debt)
@@ -102,13 +100,13 @@ module _ (s : Station) where
       (λ h. ((both own (assignable_onu onu) (both (eqb (state_number s.activation) 2) _ (both b _ h).1).1).1, tt))
       (λ h. nothing_wrong s)
 
-  answered-valid : holds_identity_lem s.activation ≡ true → (t : Target) (seq : ℕ) → Valid s (answered t seq)
-  answered-valid i (To delay) seq = (i, (i, refl))
-  answered-valid i Outside seq = (tt, (i, refl))
+  answered-valid : holds_identity_lem s.activation ≡ true → (t : Option ℕ) (seq : ℕ) → Valid s (answered t seq)
+  answered-valid i (Some delay) seq = (i, (i, refl))
+  answered-valid i None seq = (tt, (i, refl))
 
-  unanswered-valid : holds_identity_lem s.activation ≡ true → (t : Target) → Valid s (unanswered t)
-  unanswered-valid i (To delay) = (i, tt)
-  unanswered-valid i Outside = nothing_wrong s
+  unanswered-valid : holds_identity_lem s.activation ≡ true → (t : Option ℕ) → Valid s (unanswered t)
+  unanswered-valid i (Some delay) = (i, tt)
+  unanswered-valid i None = nothing_wrong s
 
   ranging-valid
       : (b : Bool) (delay seq : ℕ) (way : Adjustment) (amount : ℕ)

@@ -1,30 +1,27 @@
 -- What reading answers, a case each.
 -- Assumes nothing.
-use mathlib.Core.Path.{◌≡◌, ap, ◌∙◌}
-use mathlib.Core.Bool.{Bool, true, false}
+use mathlib.Core.Path.{◌≡◌}
+use mathlib.Core.Bool.{true, false}
 use mathlib.Core.List.{List}
 use Prim.Native.Nat.{ℕ, ◌≤◌, ◌<◌}
-use lib.ListN.{length, take, replicate}
+use lib.ListN.{length, take}
 use borrow.Author.Tests.{le-leb, lt-leb}
+use Rattle.std.specs.Prelude.{Ok, Err}
 use Rattle.integrity.specs.Integrity.{same}
 use Rattle.station.specs.declared.Station.{Station}
-use Rattle.station.specs.Station.{power_on_lem}
-use Rattle.layout.specs.declared.StateRead.{StateRead}
-use Rattle.layout.specs.declared.Contents.{Contents}
-use Rattle.layout.specs.declared.Contents.TheVariants.{Held, Unreadable, Short}
-use Rattle.station.specs.Limits.{serial_octets_lem, registration_octets_lem}
+use Rattle.xgem.specs.declared.ReadError.TheVariants.{Unreadable, Short}
 use Rattle.layout.specs.Offsets.{state_bytes}
 use Rattle.layout.specs.Layout.{encoded, shown, read_of}
 
-module _ (b : List ℕ) (s : Station) where
-  pub read_short : length b < state_bytes → s ≡ power_on_lem (replicate serial_octets_lem 0) (replicate registration_octets_lem 0) → ◌≡◌ {A = StateRead} (record { contents = Short; station = s }) (read_of b)
+module _ (b : List ℕ) where
+  pub read_short : length b < state_bytes → Err Short ≡ read_of b
   unfolding read_of
-  read_short h e = rw (lt-leb state_bytes (length b) h, e)
+  read_short h = rw (lt-leb state_bytes (length b) h)
 
-  pub read_held : state_bytes ≤ length b → s ≡ shown b → same (encoded (shown b)) (take state_bytes b) ≡ true → ◌≡◌ {A = StateRead} (record { contents = Held; station = s }) (read_of b)
+  pub read_held : (s : Station) → state_bytes ≤ length b → s ≡ shown b → same (encoded (shown b)) (take state_bytes b) ≡ true → Ok s ≡ read_of b
   unfolding read_of
-  read_held h e f = rw (le-leb state_bytes (length b) h, f, e)
+  read_held s h e f = rw (le-leb state_bytes (length b) h, f, e)
 
-  pub read_unreadable : state_bytes ≤ length b → s ≡ shown b → same (encoded (shown b)) (take state_bytes b) ≡ false → ◌≡◌ {A = StateRead} (record { contents = Unreadable; station = s }) (read_of b)
+  pub read_unreadable : state_bytes ≤ length b → same (encoded (shown b)) (take state_bytes b) ≡ false → Err Unreadable ≡ read_of b
   unfolding read_of
-  read_unreadable h e f = rw (le-leb state_bytes (length b) h, f, e)
+  read_unreadable h f = rw (le-leb state_bytes (length b) h, f)

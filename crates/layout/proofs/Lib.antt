@@ -1,4 +1,5 @@
 pub mod Laws
+pub mod Arrays
 pub mod Answers
 pub mod Fields
 pub mod RoundTrips

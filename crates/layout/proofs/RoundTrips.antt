@@ -10,16 +10,15 @@ use lib.ListN.{length, take, drop, length-append, take-append-drop}
 use lib.Seq.{take_at, length-take-le}
 use borrow.Author.Tests.{le-leb, leb-true}
 use Rattle.octets.specs.Octets.{value, octets}
-use Rattle.xgem.specs.Reads.{Found, fields, unreadable, short}
+use Rattle.xgem.specs.Reads.{Found, fields, unreadable, short, found_in}
 use Rattle.octets.proofs.Numbers.{value-octets}
 use Rattle.integrity.specs.Integrity.{same}
 use Rattle.integrity.proofs.Same.{same_refl, same-equal}
 use Rattle.station.specs.declared.Station.{Station}
-use Rattle.layout.specs.declared.StateRead.{StateRead}
 use Rattle.station.specs.Limits.{serial_octets_lem, registration_octets_lem}
 use Rattle.layout.specs.Rows.{part}
 use Rattle.layout.specs.Offsets.{version_width, state_version, activation_at, activation_width, serial_at_lem, registration_at, link_at, link_width, ports_at, ports_width, carried_at, words_width, state_bytes}
-use Rattle.layout.specs.Layout.{activation_octets, activation_of, identity_octets, link_octets, link_of, ports_octets, ports_of, encoded, shown, read_of, found, decoded, stored}
+use Rattle.layout.specs.Layout.{activation_octets, activation_of, identity_octets, link_octets, link_of, ports_octets, ports_of, encoded, shown, read_of, decoded, stored}
 use Rattle.layout.specs.Typed.{Sized, Typed}
 use Rattle.layout.proofs.Laws.{joined}
 use Rattle.layout.proofs.Answers.{read_held}
@@ -83,7 +82,7 @@ module _ (s : Station) (t : Typed s) (rest : List ℕ) where
       let room : state_bytes ≤ length b = omega (arith, (encoded-length s t.sized), length-append (encoded s) rest) in
       let front-is : take state_bytes b ≡ encoded s = take_at (encoded s) rest state_bytes (encoded-length s t.sized) in
       let alike : same (encoded (shown b)) (take state_bytes b) ≡ true = ap₂ same (ap encoded shown_back) front-is ∙ same_refl (encoded s) in
-      ap (λ (r : StateRead). found r.contents r.station) (sym (read_held b s room (sym shown_back) alike))
+      ap found_in (sym (read_held b s room (sym shown_back) alike))
 
 -- ---- octets that are read are those of the state they are read as
 

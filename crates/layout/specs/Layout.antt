@@ -1,10 +1,10 @@
 -- A station's state as octets at fixed offsets, numbers with their most significant octet first.
 -- Assumes nothing.
-use Rattle.std.specs.Prelude.{ℕ, ◌+◌, List, [], ◌∷◌, ◌++◌, Bool, cond, eqb, leb, length, take, replicate}
+use Rattle.std.specs.Prelude.{Result, Ok, Err, ℕ, ◌+◌, List, [], ◌∷◌, ◌++◌, Bool, cond, eqb, leb, length, take, replicate}
 use Rattle.ids.specs.declared.AllocId.{AllocId}
 use Rattle.ids.specs.declared.PortId.{PortId}
 use Rattle.octets.specs.Octets.{value, octets}
-use Rattle.xgem.specs.Reads.{Found, fields, unreadable, short}
+use Rattle.xgem.specs.Reads.{Found, found_in}
 use Rattle.xgem.specs.Writes.{put}
 use Rattle.integrity.specs.Integrity.{same}
 use Rattle.station.specs.declared.Activation.{Activation}
@@ -12,7 +12,7 @@ use Rattle.station.specs.declared.Activation.TheVariants.{Initial, SerialNumber,
 use Rattle.station.specs.declared.Station.{Station}
 use Rattle.link.specs.declared.Response.{Response}
 use Rattle.link.specs.declared.Response.TheVariants.{Registration, Acknowledgement}
-use Rattle.ploam.specs.declared.Completion.TheVariants.{Ok, NoMessage, UnknownMessageType, ParameterError, ProcessingError}
+use Rattle.ploam.specs.declared.Completion.TheVariants.{Ok as OkCode, NoMessage, UnknownMessageType, ParameterError, ProcessingError}
 use Rattle.link.specs.declared.Owed.{Owed}
 use Rattle.link.specs.declared.Key.{Key}
 use Rattle.link.specs.declared.Allocs.{Allocs}
@@ -21,10 +21,8 @@ use Rattle.link.specs.declared.Link.{Link}
 use Rattle.ports.specs.declared.Ports.{Ports}
 use Rattle.station.specs.States.{o23, o4, o5, o6, o7, state_number}
 use Rattle.ploam.specs.Completions.{completion_code}
-use Rattle.station.specs.Station.{power_on_lem}
-use Rattle.layout.specs.declared.StateRead.{StateRead}
-use Rattle.layout.specs.declared.Contents.{Contents}
-use Rattle.layout.specs.declared.Contents.TheVariants.{Held, Unreadable, Short}
+use Rattle.xgem.specs.declared.ReadError.{ReadError}
+use Rattle.xgem.specs.declared.ReadError.TheVariants.{Unreadable, Short}
 use Rattle.station.specs.Limits.{serial_octets_lem, registration_octets_lem}
 use Rattle.link.specs.Limits.{added_allocs, most_owed}
 use Rattle.link.specs.Limits as limits
@@ -108,7 +106,7 @@ activation_by_lem number left =
 
 abbrev pub response_by_lem : ℕ → Response
 response_by_lem number =
-    cond (eqb number 1) (Acknowledgement Ok)
+    cond (eqb number 1) (Acknowledgement OkCode)
     (cond (eqb number 2) (Acknowledgement NoMessage)
     (cond (eqb number 4) (Acknowledgement UnknownMessageType)
     (cond (eqb number 5) (Acknowledgement ParameterError) (cond (eqb number 6) (Acknowledgement ProcessingError) Registration))))
@@ -169,19 +167,14 @@ shown b =
 -- ---- a state has exactly one byte form: octets are read as the state that they show only where they are that state's octets. So
 -- another version, an unknown number of a state or an answer, a mark other than 0 and 1, and a time in a state that carries
 -- none are unreadable
-unfoldable pub read_of : List ℕ → StateRead
+unfoldable pub read_of : List ℕ → Result Station ReadError
 read_of b =
     cond (leb state_bytes (length b))
-    (record { contents = cond (same (encoded (shown b)) (take state_bytes b)) Held Unreadable; station = shown b })
-    (record { contents = Short; station = power_on_lem (replicate serial_octets_lem 0) (replicate registration_octets_lem 0) })
-
-abbrev pub found : Contents → Station → Found Station
-found Held s = fields s
-found Unreadable s = unreadable
-found Short s = short
+    (cond (same (encoded (shown b)) (take state_bytes b)) (Ok (shown b)) (Err Unreadable))
+    (Err Short)
 
 abbrev pub decoded : List ℕ → Found Station
-decoded b = found (read_of b).contents (read_of b).station
+decoded b = found_in (read_of b)
 
 -- a state at the start of a buffer that has room for it
 unfoldable pub stored : Station → List ℕ → List ℕ

@@ -1,14 +1,12 @@
 // The octets that can be no state's: another version, an unknown number of a state or an answer, a mark other than 0 and 1, and a time in
 // a state that carries none. Every other octet belongs to a field that has all its numbers.
-ghost use Rattle.std.specs.Prelude.{◌≡◌, ◌≤◌, length, take};
+ghost use Rattle.std.specs.Prelude.{Bool, ℕ, ◌*◌, ◌≡◌, ◌<◌, ◌≤◌, length, take};
 ghost use Rattle.integrity.specs.Integrity.{same};
-ghost use Rattle.link.specs.Limits.{most_owed};
-ghost use Rattle.ports.specs.Limits.{slots};
-ghost use Rattle.layout.specs.Offsets.{activation_width, answer_width, answers_width, mark_width, waiting_width, state_bytes};
+ghost use Rattle.layout.specs.Offsets.{activation_width, state_bytes};
 ghost use Rattle.layout.specs.Layout.{encoded, shown};
 ghost use Rattle.layout.specs.KnownOctets.{activation_known_lem, mark_known_lem, answer_known_lem, each_known};
 
-use super::{numbers, offsets, reading, writing};
+use super::{field, offsets, reading, writing};
 
 // In the whole state.
 const HELD_AT: usize = offsets::LINK_AT + offsets::KEY_AT + offsets::HELD_AT;
@@ -21,8 +19,8 @@ fn activation_known(c: &[u8]) -> bool
     requires { length c.now ≡ activation_width }
     ensures { result ≡ activation_known_lem c.now }
 {
-    let number = numbers::number8(&c[offsets::NUMBER_AT..offsets::TIME_AT]);
-    let left = numbers::number32(&c[offsets::TIME_AT..offsets::ACTIVATION_WIDTH]);
+    let number = field::field_at(c, offsets::NUMBER_AT);
+    let left = field::field_at(c, offsets::TIME_AT);
     let a = reading::activation_by(number, left);
     if a.number() != number {
         return false;
@@ -43,28 +41,16 @@ fn answer_known(number: u8) -> bool
     (number <= 6) & (number != 3)
 }
 
-fn answers_known(c: &[u8]) -> bool
-    requires { length c.now ≡ answers_width }
-    ensures { result ≡ each_known answer_known_lem answer_width most_owed c.now }
+// The first octet of each of N fields, W octets wide. Each is asked: the answers are joined without a branch.
+fn each_known<const W: usize, const N: usize, F: Fn(u8) -> bool>(c: &[u8], known: F) -> bool
+    requires fields { length c.now ≡ W * N }
+    requires wide { 0 < W }
+    requires callable { F.IsAlwaysCallable known }
+    ensures { (f : ℕ → Bool) → ((x : ℕ) (r : Bool) → F.post known x r → r ≡ f x) → result ≡ each_known f W N c.now }
 {
     let mut all = true;
-    let mut i: usize = 0;
-    while i < link::MOST_OWED {
-        all = all & answer_known(c[offsets::ANSWER_WIDTH * i]);
-        i += 1;
-    }
-    all
-}
-
-fn marks_known(c: &[u8]) -> bool
-    requires { length c.now ≡ waiting_width }
-    ensures { result ≡ each_known mark_known_lem mark_width slots c.now }
-{
-    let mut all = true;
-    let mut i: usize = 0;
-    while i < ports::SLOTS {
-        all = all & mark_known(c[i]);
-        i += 1;
+    for i in 0..N {
+        all &= known(c[W * i]);
     }
     all
 }
@@ -85,8 +71,10 @@ pub(crate) fn octets_known(b: &[u8]) -> bool
     if !mark_known(held) {
         return false;
     }
-    if !answers_known(&b[ANSWERS_AT..offsets::PORTS_AT]) {
+    let answers = &b[ANSWERS_AT..offsets::PORTS_AT];
+    if !each_known::<{ offsets::ANSWER_WIDTH }, { link::MOST_OWED }, _>(answers, answer_known) {
         return false;
     }
-    marks_known(&b[WAITING_AT..offsets::CARRIED_AT])
+    let marks = &b[WAITING_AT..offsets::CARRIED_AT];
+    each_known::<{ offsets::MARK_WIDTH }, { ports::SLOTS }, _>(marks, mark_known)
 }

@@ -7,6 +7,9 @@ use mathlib.Core.List.{List}
 use lib.Dec.{eqb, leb, ltb}
 use lib.ListN.{length}
 use borrow.Author.Tests.{eqb-true, leb-true, leb-false, lt-ltb, le-ltb}
+use Rattle.std.specs.Prelude.{None, Option, Some, ℕ}
+use Rattle.link.specs.declared.Owed.{Owed}
+use Rattle.ploam.specs.declared.Message.{Message}
 use Rattle.ids.specs.declared.OnuId.{OnuId}
 use Rattle.ids.specs.declared.AllocId.{AllocId}
 use Rattle.ids.specs.Ids.{assignable_onu, assignable_alloc}
@@ -18,8 +21,6 @@ use Rattle.ploam.specs.declared.AllocChange.{AllocChange}
 use Rattle.ploam.specs.declared.AllocChange.TheVariants.{Assign, Deallocate, OtherChange}
 use Rattle.ploam.specs.declared.Content.{Content}
 use Rattle.ploam.specs.declared.Content.TheVariants.{Profile, AssignOnuId, RangingTime, DeactivateOnuId, DisableSerialNumber, RequestRegistration, AssignAllocId, KeyControl, SleepAllow, Unknown}
-use Rattle.ploam.specs.declared.Received.{Received}
-use Rattle.ploam.specs.declared.Received.TheVariants.{Whole, Short}
 use Rattle.ploam.specs.Layout.{message_octets}
 use Rattle.ploam.specs.Reading.{message_of, content_of, received}
 use Rattle.integrity.specs.Integrity.{installed_key_lem, genuine, mic_right_lem}
@@ -34,11 +35,7 @@ use Rattle.station.specs.States.{holds_identity_lem, state_number, o23, o4, o5, 
 use Rattle.link.specs.Link.{alloc_place, held_allocs}
 use Rattle.effects.specs.declared.Change.{Change}
 use Rattle.effects.specs.declared.Change.TheVariants.{Keep, Identify, Range, Delay, AddAlloc, RemoveAlloc, Enter}
-use Rattle.effects.specs.declared.Debt.{Debt}
-use Rattle.effects.specs.declared.Debt.TheVariants.{Free, Owes}
 use Rattle.effects.specs.declared.Effect.{Effect}
-use Rattle.decisions.specs.declared.ranging.Target.{Target}
-use Rattle.decisions.specs.declared.ranging.Target.TheVariants.{To, Outside}
 use Rattle.effects.specs.Effects.{ignored, does, answers}
 use Rattle.decisions.specs.Ranging.{absolute, moved, answered, unanswered, ranging_time_lem}
 use Rattle.decisions.specs.Decisions as decided
@@ -88,9 +85,9 @@ change_turns s (AddAlloc id) = refl
 change_turns s (RemoveAlloc id) = refl
 change_turns s (Enter a) = refl
 
-debt_keeps : (s : Station) (d : Debt) → own_of (apply_debt_lem s d) ≡ own_of s
-debt_keeps s Free = refl
-debt_keeps s (Owes answer) = refl
+debt_keeps : (s : Station) (d : Option Owed) → own_of (apply_debt_lem s d) ≡ own_of s
+debt_keeps s None = refl
+debt_keeps s (Some answer) = refl
 
 applied_turns : (s : Station) (e : Effect) → own_of (applied s e) ≡ turned (own_of s) (turn_of e.change)
 unfolding applied
@@ -168,13 +165,13 @@ module _ (s : Station) (f : Fine (own_of s)) where
 
   -- ---- Ranging_Time
 
-  answered_quiet : (t : Target) (seq : ℕ) → Quiet (answered t seq)
-  answered_quiet (To delay) seq = λ n. refl
-  answered_quiet Outside seq = λ n. refl
+  answered_quiet : (t : Option ℕ) (seq : ℕ) → Quiet (answered t seq)
+  answered_quiet (Some delay) seq = λ n. refl
+  answered_quiet None seq = λ n. refl
 
-  unanswered_quiet : (t : Target) → Quiet (unanswered t)
-  unanswered_quiet (To delay) = λ n. refl
-  unanswered_quiet Outside = λ n. refl
+  unanswered_quiet : (t : Option ℕ) → Quiet (unanswered t)
+  unanswered_quiet (Some delay) = λ n. refl
+  unanswered_quiet None = λ n. refl
 
   ranging_quiet : (b : Bool) (delay seq : ℕ) (way : Adjustment) (amount : ℕ) → Quiet (ranging_time_lem (state_number s.activation) b delay seq way amount)
   unfolding ranging_time_lem
@@ -337,7 +334,7 @@ module _ (s : Station) (f : Fine (own_of s)) where
   did_nothing = record { change = Keep; is = refl; allowed = λ n. refl }
 
   -- a message that is heard out: address and integrity are right
-  heard : (m : List ℕ) → Did s (acting s true (Whole (message_of m))) (cond (is_ours s (message_of m)) (by_content_lem s (is_broadcast (message_of m)) (content_of m)) neither)
+  heard : (m : List ℕ) → Did s (acting s true (Some (message_of m))) (cond (is_ours s (message_of m)) (by_content_lem s (is_broadcast (message_of m)) (content_of m)) neither)
   unfolding act effect_of
   heard m = go (is_ours s (message_of m))
     where
@@ -353,12 +350,12 @@ module _ (s : Station) (f : Fine (own_of s)) where
           }
       go false = did_nothing
 
-  unheard : (r : Received) → acting s false r ≡ s
-  unheard (Whole message) = act_forged s message
-  unheard Short = refl
+  unheard : (r : Option Message) → acting s false r ≡ s
+  unheard (Some message) = act_forged s message
+  unheard None = refl
 
 -- a message with a right integrity field is whole
-genuine_whole : (key m : List ℕ) → genuine key m ≡ true → received m ≡ Whole (message_of m)
+genuine_whole : (key m : List ℕ) → genuine key m ≡ true → received m ≡ Some (message_of m)
 unfolding genuine mic_right_lem received
 genuine_whole key m e =
     let k = leb-true message_octets (length m) (both (leb message_octets (length m)) _ e).0 in

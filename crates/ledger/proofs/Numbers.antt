@@ -10,17 +10,15 @@ use lib.Dec.{eqb, leb}
 use lib.ListN.{length}
 use lib.Seq.{take-suc-set}
 use borrow.Author.Tests.{eqb-true, eqb-false, ne_eqb, lt-leb, leb-true}
+use Rattle.std.specs.Prelude.{None, Option, Some, ℕ}
 use Rattle.ids.specs.declared.AllocId.{AllocId}
 use Rattle.ids.specs.Ids.{same_alloc, assignable_alloc}
 use Rattle.link.specs.declared.Allocs.{Allocs}
-use Rattle.ids.specs.declared.Place.{Place}
-use Rattle.ids.specs.declared.Place.TheVariants.{At, Nowhere}
 use Rattle.link.specs.Limits.{added_allocs}
-use Rattle.ids.specs.Places.{place_from, some}
+use Rattle.ids.specs.Places.{place_from, some, is_held}
 use Rattle.link.specs.Link.{no_alloc, held_allocs, alloc_place, add_alloc, remove_alloc, remove_at}
 use Rattle.ids.proofs.Places.{place-held}
 use Rattle.validity.specs.Ranges.{proper, allocs_fit_lem}
-use Rattle.ids.specs.Places.{is_held}
 use Rattle.validity.proofs.Tests.{both, not_so}
 use Rattle.invariants.proofs.Lists.{found_some, without, closed_up}
 
@@ -50,11 +48,11 @@ added-among a id n h l =
 
 -- ---- one less
 
-place_above : {A : Type 0} (f : A → Bool) (j : ℕ) (l : List A) (i : ℕ) → place_from f j l ≡ At i → j ≤ i
+place_above : {A : Type 0} (f : A → Bool) (j : ℕ) (l : List A) (i : ℕ) → place_from f j l ≡ Some i → j ≤ i
 place_above f j [] i e = let z : ◌≡◌ {A = ℕ} 0 1 = cc in omega arith
 place_above f j (a ∷ l) i e = go (f a) e (place_above f (j + 1) l i)
   where
-    go : (b : Bool) → cond b (At j) (place_from f (j + 1) l) ≡ At i → (place_from f (j + 1) l ≡ At i → j + 1 ≤ i) → j ≤ i
+    go : (b : Bool) → cond b (Some j) (place_from f (j + 1) l) ≡ Some i → (place_from f (j + 1) l ≡ Some i → j + 1 ≤ i) → j ≤ i
     go true e k = let z : j ≡ i = cc in omega arith
     go false e k = let z : j + 1 ≤ i = k e in omega arith
 
@@ -87,7 +85,7 @@ module _ (id : AllocId) (n : ℕ) where
 
   goes
       : (l : List AllocId) (j i : ℕ) → proper assignable_alloc same_alloc l ≡ true
-      → place_from (same_alloc id) j l ≡ At (j + i) → among (without i l) n ≡ (not (eqb n id.0) && among l n)
+      → place_from (same_alloc id) j l ≡ Some (j + i) → among (without i l) n ≡ (not (eqb n id.0) && among l n)
   goes [] j i p e =
       let z : ◌≡◌ {A = ℕ} 0 1 = cc in
       let f : ⊥ = omega arith in
@@ -95,7 +93,7 @@ module _ (id : AllocId) (n : ℕ) where
   goes (x ∷ l) j zero p e = go (same_alloc id x) refl e
     where
       go
-          : (b : Bool) → same_alloc id x ≡ b → cond b (At j) (place_from (same_alloc id) (j + 1) l) ≡ At (j + 0)
+          : (b : Bool) → same_alloc id x ≡ b → cond b (Some j) (place_from (same_alloc id) (j + 1) l) ≡ Some (j + 0)
           → among l n ≡ (not (eqb n id.0) && among (x ∷ l) n)
       go true t e =
           let q = both (assignable_alloc x) (not (some (same_alloc x) l) && proper assignable_alloc same_alloc l) p in
@@ -107,8 +105,8 @@ module _ (id : AllocId) (n : ℕ) where
   goes (x ∷ l) j (suc i) p e = go (same_alloc id x) refl e (goes l (j + 1) i)
     where
       go
-          : (b : Bool) → same_alloc id x ≡ b → cond b (At j) (place_from (same_alloc id) (j + 1) l) ≡ At (j + suc i)
-          → (proper assignable_alloc same_alloc l ≡ true → place_from (same_alloc id) (j + 1) l ≡ At (j + 1 + i)
+          : (b : Bool) → same_alloc id x ≡ b → cond b (Some j) (place_from (same_alloc id) (j + 1) l) ≡ Some (j + suc i)
+          → (proper assignable_alloc same_alloc l ≡ true → place_from (same_alloc id) (j + 1) l ≡ Some (j + 1 + i)
           → among (without i l) n ≡ (not (eqb n id.0) && among l n))
           → among (x ∷ without i l) n ≡ (not (eqb n id.0) && among (x ∷ l) n)
       go true t e ih =
@@ -128,16 +126,16 @@ unfolding allocs_fit_lem
 removed_among a id n l f h = go (alloc_place a id) refl h
   where
     go
-        : (p : Place) → alloc_place a id ≡ p → is_held p ≡ true
+        : (p : Option ℕ) → alloc_place a id ≡ p → is_held p ≡ true
         → among (held_allocs (remove_at a p)) n ≡ (not (eqb n id.0) && among (held_allocs a) n)
-    go (At i) e t =
+    go (Some i) e t =
         let b = both (leb a.count added_allocs) _ f in
         let c = leb-true a.count added_allocs b.0 in
         let k = place-held (same_alloc id) a.count a.ids i e in
         let z : 0 + i ≡ i = omega arith in
-        let q : place_from (same_alloc id) 0 (held_allocs a) ≡ At (0 + i) = rw z e in
+        let q : place_from (same_alloc id) 0 (held_allocs a) ≡ Some (0 + i) = rw z e in
         rw (closed_up no_alloc i a.count a.ids k.0 (omega arith)) (goes id n (held_allocs a) 0 i b.1 q)
-    go Nowhere e t = absurd (false≢true t)
+    go None e t = absurd (false≢true t)
 
 -- ---- held or not
 

@@ -1,25 +1,24 @@
--- A list that closes up one element at a time.
+-- A list that closes up behind one of its places.
 -- Assumes nothing.
-use Prim.Native.Nat.{ℕ, suc, ◌+◌, ◌<◌}
-use mathlib.Core.Path.{◌≡◌, ◌∙◌}
+use Prim.Native.Nat.{ℕ, suc, ◌+◌, ◌-◌, ◌<◌}
+use mathlib.Core.Path.{◌≡◌, ◌∙◌, sym, ap}
 use mathlib.Core.List.{List, [], ◌∷◌, ◌++◌, append_assoc}
 use native.Mathlib.Omega.{arith}
-use native.Mathlib.Numerals.{add-one}
-use lib.ListN.{length, get_or, take, drop, set, drop_of_length-le}
-use lib.Seq.{take-suc-set, drop-set-lt, drop-cons, set_split}
+use lib.ListN.{length, get_or, take, drop, set, length-take, length-drop, length-append, drop_of_length-le}
+use lib.Seq.{drop-cons, set-append_seam}
+use Rattle.std.specs.List.{copy_within}
+use Rattle.std.proofs.lemmas.List.Edits.{paste_all}
 use Rattle.link.specs.Lists.{close_up}
 
-module _ {A : Type 0} (blank : A) where
-  pub close-step
-      : (l : List A) (j : ℕ) (d : A) → j + 1 < length l → close_up blank (j + 1) (set l j (get_or l (j + 1) d)) ≡ close_up blank j l
-  close-step l j d h =
-      let x = get_or l (suc j) d in
-      let e : j < length l = omega arith in
-      let f : suc j < length l = omega arith in
-      let a : take (suc j) (set l j x) ≡ take j l ++ (x ∷ []) = take-suc-set l j x e in
-      let b : drop (suc (suc j)) (set l j x) ≡ drop (suc (suc j)) l = drop-set-lt (suc (suc j)) l j x (omega arith) in
-      let k : drop (suc j) l ≡ x ∷ drop (suc (suc j)) l = drop-cons l (suc j) d f in
-      rw (add-one j, add-one (suc j), a, b, k, append_assoc)
-
-  pub close_end : (l : List A) (j : ℕ) → j + 1 ≡ length l → set l j blank ≡ close_up blank j l
-  close_end l j h = set_split l j blank (omega arith) ∙ rw (add-one, drop_of_length-le l {i = suc j} (omega arith))
+-- what stands behind i moves up by one, and a blank is written over the last place
+pub closed
+    : {A : Type 0} (blank : A) (l : List A) (i n : ℕ) → length l ≡ n → i < n
+    → set (copy_within l (i + 1) (length l) i) (n - 1) blank ≡ close_up blank i l
+closed blank l i n e h =
+    let k = length l - (i + 1) in
+    let kept = take i l ++ drop (i + 1) l in
+    let last = get_or l (i + k) blank in
+    let m : n - 1 ≡ length kept = omega (arith, length-append (take i l) (drop (i + 1) l), length-take i l, length-drop (i + 1) l) in
+    let p : copy_within l (i + 1) (length l) i ≡ take i l ++ (drop (i + 1) l ++ drop (i + k) l) = paste_all l i (drop (i + 1) l) k (sym (length-drop (i + 1) l)) in
+    let q : drop (i + k) l ≡ last ∷ [] = drop-cons l (i + k) blank (omega arith) ∙ ap (λ t. last ∷ t) (drop_of_length-le l {i = suc (i + k)} (omega arith)) in
+    rw (p, q, sym (append_assoc (take i l) (drop (i + 1) l) (last ∷ [])), m) (set-append_seam kept last [] blank ∙ append_assoc (take i l) (drop (i + 1) l) (blank ∷ []))

@@ -1,6 +1,6 @@
 -- What the head end gives a station, what the station owes it, and nothing of either.
 -- Assumes nothing.
-use Rattle.std.specs.Prelude.{ℕ, ◌+◌, ◌-◌, List, Bool, true, false, cond, get_or, take, set, replicate, leb, ltb, eqb}
+use Rattle.std.specs.Prelude.{None, Option, Some, ℕ, ◌+◌, ◌-◌, List, true, false, cond, get_or, take, set, replicate, leb, eqb}
 use Rattle.ids.specs.declared.OnuId.{OnuId}
 use Rattle.ids.specs.declared.AllocId.{AllocId}
 use Rattle.ids.specs.Ids.{same_alloc, broadcast_onu}
@@ -10,8 +10,6 @@ use Rattle.link.specs.declared.Key.{Key}
 use Rattle.link.specs.declared.Allocs.{Allocs}
 use Rattle.link.specs.declared.Queue.{Queue}
 use Rattle.link.specs.declared.Link.{Link}
-use Rattle.ids.specs.declared.Place.{Place}
-use Rattle.ids.specs.declared.Place.TheVariants.{At, Nowhere}
 use Rattle.link.specs.Limits.{added_allocs, most_owed, key_octets}
 use Rattle.ids.specs.Places.{place_from}
 use Rattle.link.specs.Lists.{close_up}
@@ -41,16 +39,16 @@ nothing = record { onu = broadcast_onu; allocs = no_allocs; delay = 0; key = no_
 abbrev pub held_allocs : Allocs → List AllocId
 held_allocs a = take a.count a.ids
 
-abbrev pub alloc_place : Allocs → AllocId → Place
+abbrev pub alloc_place : Allocs → AllocId → Option ℕ
 alloc_place a id = place_from (same_alloc id) 0 (held_allocs a)
 
 abbrev pub add_alloc : Allocs → AllocId → Allocs
 add_alloc a id = cond (leb added_allocs a.count) a (record { ids = set a.ids a.count id; count = a.count + 1 })
 
 -- "removes and keeps the others' order"
-abbrev pub remove_at : Allocs → Place → Allocs
-remove_at a (At i) = record { ids = close_up no_alloc i a.ids; count = a.count - 1 }
-remove_at a Nowhere = a
+abbrev pub remove_at : Allocs → Option ℕ → Allocs
+remove_at a (Some i) = record { ids = close_up no_alloc i a.ids; count = a.count - 1 }
+remove_at a None = a
 
 abbrev pub remove_alloc : Allocs → AllocId → Allocs
 remove_alloc a id = remove_at a (alloc_place a id)

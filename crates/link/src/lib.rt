@@ -10,7 +10,7 @@ ghost use Rattle.link.specs.Link.{no_alloc, blank, no_key, no_allocs, none_owed,
 ghost use Rattle.link.specs.Link.{alloc_place, add_alloc, remove_alloc, owe, paid, oldest};
 ghost use Rattle.link.specs.Link.{with_onu_lem, with_delay_lem, with_key_lem, with_allocs_lem, with_owed_lem};
 
-use ids::{AllocId, OnuId, Place};
+use ids::{AllocId, OnuId};
 use ploam::Completion;
 
 // Of the added Alloc-IDs and of the answers owed, at most so many.
@@ -36,13 +36,15 @@ pub struct Owed {
 }
 
 // The PLOAM integrity key of clause 15.3.2. One that is not held is sixteen zeros.
+// No Option: of a state for C any octets beside the mark 0 are a state's and come back (`shown`, `encoded` of layout).
 #[derive(Clone, Copy)]
 pub struct Key {
     pub held: bool,
     pub octets: [u8; 16],
 }
 
-// The added Alloc-IDs in the order of their adding; past the count there is 0.
+// The added Alloc-IDs in the order of their adding; past the count there is 0. Here and in the queue a count stands beside an array:
+// no memory is taken from a heap, and a count above the array's length is a state for C, out of range (`in_range` of validity).
 #[derive(Clone, Copy)]
 pub struct Allocs {
     pub ids: [AllocId; 16],
@@ -76,149 +78,99 @@ fn blank_answer() -> Owed
     }
 }
 
-// The array without its i-th Alloc-ID: the others keep their order.
-fn close_allocs(ids: [AllocId; 16], i: usize) -> [AllocId; 16]
-    requires { i < added_allocs }
-    ensures { result ≡ close_up no_alloc i ids }
+// The array without what stands at i: the others keep their order, and a blank comes in at the end.
+fn close_up<T: Copy, const N: usize>(mut list: [T; N], i: usize, blank: T) -> [T; N]
+    requires { i < N }
+    ensures { result ≡ close_up blank i list }
 {
-    let mut l = ids;
-    let mut j = i;
-    while j < ADDED_ALLOCS - 1 {
-        let next = l[j + 1];
-        l[j] = next;
-        j += 1;
-    }
-    let none = AllocId(0);
-    l[j] = none;
-    l
+    list.copy_within(i + 1.., i);
+    list[N - 1] = blank;
+    list
 }
 
 // Among the first n.
-fn find_alloc(ids: [AllocId; 16], n: usize, id: AllocId) -> Place
+fn find_alloc(ids: [AllocId; 16], n: usize, id: AllocId) -> Option<usize>
     ensures { (result ≡ place_from (same_alloc id) 0 (take n ids)) × (Below result added_allocs) }
 {
-    let mut i: usize = 0;
-    while i < ADDED_ALLOCS {
-        if n <= i {
-            return Place::Nowhere;
-        }
-        let other = ids[i];
-        if id.is(other) {
-            return Place::At(i);
-        }
-        i += 1;
-    }
-    Place::Nowhere
+    ids::place_of(&ids[..n.min(ADDED_ALLOCS)], id)
 }
 
 impl Allocs {
     pub fn none() -> Allocs
         ensures { result ≡ no_allocs }
     {
-        let none = AllocId(0);
         Allocs {
-            ids: [none; 16],
+            ids: [AllocId(0); 16],
             count: 0,
         }
     }
 
-    pub fn place(self, id: AllocId) -> Place
+    pub fn place(self, id: AllocId) -> Option<usize>
         ensures { result ≡ alloc_place self id }
     {
-        let ids = self.ids;
-        find_alloc(ids, self.count, id)
+        find_alloc(self.ids, self.count, id)
     }
 
-    pub fn add(self, id: AllocId) -> Allocs
+    pub fn add(mut self, id: AllocId) -> Allocs
         ensures { result ≡ add_alloc self id }
     {
-        let n = self.count;
-        if ADDED_ALLOCS <= n {
+        if ADDED_ALLOCS <= self.count {
             return self;
         }
-        let mut next = self;
-        next.ids[n] = id;
-        next.count = n + 1;
-        next
+        self.ids[self.count] = id;
+        self.count += 1;
+        self
     }
 
     pub fn remove(self, id: AllocId) -> Allocs
         ensures { result ≡ remove_alloc self id }
     {
-        let ids = self.ids;
-        let n = self.count;
-        match find_alloc(ids, n, id) {
-            Place::At(i) => {
-                let closed = close_allocs(ids, i);
-                Allocs {
-                    ids: closed,
-                    count: n - 1,
-                }
-            }
-            Place::Nowhere => self,
+        match find_alloc(self.ids, self.count, id) {
+            Some(i) => Allocs {
+                ids: close_up(self.ids, i, AllocId(0)),
+                count: self.count - 1,
+            },
+            None => self,
         }
     }
-}
-
-// The queue without its oldest answer: the others move up.
-fn close_answers(answers: [Owed; 8]) -> [Owed; 8]
-    ensures { result ≡ close_up blank 0 answers }
-{
-    let mut l = answers;
-    let mut j: usize = 0;
-    while j < MOST_OWED - 1 {
-        let next = l[j + 1];
-        l[j] = next;
-        j += 1;
-    }
-    let none = blank_answer();
-    l[j] = none;
-    l
 }
 
 impl Queue {
     pub fn none() -> Queue
         ensures { result ≡ none_owed }
     {
-        let none = blank_answer();
         Queue {
-            answers: [none; 8],
+            answers: [blank_answer(); 8],
             count: 0,
         }
     }
 
-    pub fn owe(self, answer: Owed) -> Queue
+    pub fn owe(mut self, answer: Owed) -> Queue
         ensures { result ≡ owe self answer }
     {
-        let n = self.count;
-        if MOST_OWED <= n {
+        if MOST_OWED <= self.count {
             return self;
         }
-        let mut next = self;
-        next.answers[n] = answer;
-        next.count = n + 1;
-        next
+        self.answers[self.count] = answer;
+        self.count += 1;
+        self
     }
 
     pub fn oldest(self) -> Owed
         ensures { result ≡ oldest self }
     {
-        let first = self.answers[0];
-        first
+        self.answers[0]
     }
 
     pub fn paid(self) -> Queue
         ensures { result ≡ paid self }
     {
-        let n = self.count;
-        if n == 0 {
+        if self.count == 0 {
             return self;
         }
-        let answers = self.answers;
-        let closed = close_answers(answers);
         Queue {
-            answers: closed,
-            count: n - 1,
+            answers: close_up(self.answers, 0, blank_answer()),
+            count: self.count - 1,
         }
     }
 }
@@ -236,10 +188,7 @@ impl Key {
     pub fn installed(octets: [u8; 16]) -> Key
         ensures { result ≡ installed octets }
     {
-        Key {
-            held: true,
-            octets: octets,
-        }
+        Key { held: true, octets }
     }
 }
 
@@ -247,16 +196,12 @@ impl Link {
     pub fn nothing() -> Link
         ensures { result ≡ nothing }
     {
-        let onu = OnuId::broadcast();
-        let allocs = Allocs::none();
-        let key = Key::none();
-        let owed = Queue::none();
         Link {
-            onu: onu,
-            allocs: allocs,
+            onu: OnuId::broadcast(),
+            allocs: Allocs::none(),
             delay: 0,
-            key: key,
-            owed: owed,
+            key: Key::none(),
+            owed: Queue::none(),
         }
     }
 

@@ -7,9 +7,9 @@ use mathlib.Core.List.{List, [], ◌∷◌}
 use mathlib.Core.Logic.{◌⊎◌, inl, inr}
 use lib.Dec.{ltb}
 use lib.ListN.{length}
+use Rattle.std.specs.Prelude.{None, Option, Some}
+use Rattle.ploam.specs.declared.Message.{Message}
 use Rattle.ids.specs.Ids.{same_onu, broadcast_onu}
-use Rattle.ploam.specs.declared.Received.{Received}
-use Rattle.ploam.specs.declared.Received.TheVariants.{Whole, Short}
 use Rattle.ploam.specs.Layout.{message_octets, address_of}
 use Rattle.ploam.specs.Reading.{message_of, received}
 use Rattle.integrity.specs.Integrity.{installed_key_lem, genuine}
@@ -36,11 +36,11 @@ rests_alike
 unfolding received is_broadcast
 rests_alike s m g h r e = short (ltb (length m) message_octets)
   where
-    whole : (b : Bool) → same_onu (address_of m) broadcast_onu ≡ b → acting s g (Whole (message_of m)) ≡ acting s h (Whole (message_of m))
-    whole true p = ap (λ (x : Bool). acting s x (Whole (message_of m))) (e p)
+    whole : (b : Bool) → same_onu (address_of m) broadcast_onu ≡ b → acting s g (Some (message_of m)) ≡ acting s h (Some (message_of m))
+    whole true p = ap (λ (x : Bool). acting s x (Some (message_of m))) (e p)
     whole false p = directed_rests s g (message_of m) r p ∙ sym (directed_rests s h (message_of m) r p)
 
-    short : (b : Bool) → acting s g (cond b Short (Whole (message_of m))) ≡ acting s h (cond b Short (Whole (message_of m)))
+    short : (b : Bool) → acting s g (cond b None (Some (message_of m))) ≡ acting s h (cond b None (Some (message_of m)))
     short true = refl
     short false = whole (same_onu (address_of m) broadcast_onu) refl
 
@@ -51,14 +51,14 @@ one_apart k s m (inr r) = rests_alike s m (by s.link.key m) (by k m) r (broadcas
 
 -- ---- and it stays so
 
-held_on : (k : Key) (s : Station) (g : Bool) (r : Received) → Held k s → Held k (acting s g r)
-held_on k s g (Whole message) (inl e) = forgets (act-forgets s g message)
+held_on : (k : Key) (s : Station) (g : Bool) (r : Option Message) → Held k s → Held k (acting s g r)
+held_on k s g (Some message) (inl e) = forgets (act-forgets s g message)
   where
-    forgets : ((acting s g (Whole message)).link.key ≡ s.link.key) ⊎ (resting (acting s g (Whole message)).activation ≡ true) → Held k (acting s g (Whole message))
+    forgets : ((acting s g (Some message)).link.key ≡ s.link.key) ⊎ (resting (acting s g (Some message)).activation ≡ true) → Held k (acting s g (Some message))
     forgets (inl p) = inl (p ∙ e)
     forgets (inr p) = inr p
-held_on k s g (Whole message) (inr r) = inr (act_rests s g message r)
-held_on k s g Short h = h
+held_on k s g (Some message) (inr r) = inr (act_rests s g message r)
+held_on k s g None h = h
 
 all_apart : (k : Key) (s : Station) (l : List (List ℕ)) → Held k s → receive_all s l ≡ act_all (by k) s l
 all_apart k s [] h = refl

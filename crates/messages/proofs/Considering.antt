@@ -6,10 +6,9 @@ use mathlib.Core.Bool.{Bool, true, false}
 use mathlib.Core.List.{List}
 use native.Mathlib.Omega.{arith}
 use lib.ListN.{take, drop}
+use Rattle.std.specs.Prelude.{None, Option, Some}
 use Rattle.cmac.specs.declared.Prepared.{Prepared}
 use Rattle.ploam.specs.declared.Message.{Message}
-use Rattle.ploam.specs.declared.Received.{Received}
-use Rattle.ploam.specs.declared.Received.TheVariants.{Whole, Short}
 use Rattle.ploam.specs.Layout.{message_at}
 use Rattle.ploam.specs.Reading.{received}
 use Rattle.integrity.specs.Integrity.{genuine_by}
@@ -37,18 +36,18 @@ unfolding applied
 nothing s = refl
 
 -- what is read of the message's octets, lent as a part
-module _ (usual installed : Prepared) (s : Station) (b : List ℕ) (i : ℕ) (r : Received)
+module _ (usual installed : Prepared) (s : Station) (b : List ℕ) (i : ℕ) (r : Option Message)
     (er : r ≡ received (take (48 * i + 48 - 48 * i) (drop (48 * i) b))) where
   read_there : r ≡ received (message_at b i)
   read_there =
       let e : 48 * i + 48 - 48 * i ≡ 48 = omega arith in
       er ∙ ap (λ (k : ℕ). received (take k (drop (48 * i) b))) e
 
-  pub short_considered : (e : Effect) → r ≡ Short → e ≡ ignored → applied s e ≡ received_by usual installed s (message_at b i)
+  pub short_considered : (e : Effect) → r ≡ None → e ≡ ignored → applied s e ≡ received_by usual installed s (message_at b i)
   unfolding received_by
   short_considered e h ee = rw (ee, sym read_there ∙ h) (nothing s)
 
-  module _ (m : Message) (e : Effect) (em : r ≡ Whole m) (ee : e ≡ decision s m) where
+  module _ (m : Message) (e : Effect) (em : r ≡ Some m) (ee : e ≡ decision s m) where
     by-verdict : (x : Effect) (g : Bool) → genuine_by usual installed (message_at b i) ≡ g → applied s x ≡ act s g m → applied s x ≡ received_by usual installed s (message_at b i)
     unfolding received_by
     by-verdict x g eg h = rw (sym read_there ∙ em, eg) h

@@ -3,10 +3,11 @@
 use Prim.Native.Nat.{ℕ, zero, suc, ◌+◌, ◌-◌, ◌≤◌, ◌<◌}
 use mathlib.Core.Path.{◌≡◌, ◌∙◌, refl, sym, ap}
 use mathlib.Core.Bool.{Bool, true, false, ◌&&◌, not, cond, false≢true}
-use mathlib.Core.List.{List, ◌∷◌}
+use mathlib.Core.List.{List}
 use native.Mathlib.Omega.{arith}
 use lib.Dec.{eqb, ltb, leb}
 use lib.ListN.{length}
+use Rattle.std.specs.Prelude.{None, Option, Some, ℕ}
 use Rattle.ids.specs.declared.OnuId.{OnuId}
 use Rattle.ids.specs.declared.AllocId.{AllocId}
 use Rattle.ids.specs.Ids.{same_onu, broadcast_onu, assignable_alloc}
@@ -16,7 +17,6 @@ use Rattle.ploam.specs.declared.AllocChange.TheVariants.{Assign, Deallocate, Oth
 use Rattle.ploam.specs.declared.Content.{Content}
 use Rattle.ploam.specs.declared.Content.TheVariants.{Profile, AssignOnuId, RangingTime, DeactivateOnuId, DisableSerialNumber, RequestRegistration, AssignAllocId, KeyControl, SleepAllow, Unknown}
 use Rattle.ploam.specs.declared.Message.{Message}
-use Rattle.ploam.specs.declared.Received.TheVariants.{Whole, Short}
 use Rattle.ploam.specs.Layout.{message_octets, message_at, address_of, type_of}
 use Rattle.ploam.specs.Reading.{content_as, message_of, received}
 use Rattle.station.specs.declared.Station.{Station}
@@ -31,13 +31,10 @@ use Rattle.link.specs.Limits.{added_allocs}
 use Rattle.effects.specs.declared.Change.{Change}
 use Rattle.effects.specs.declared.Change.TheVariants.{Keep, Range, AddAlloc, RemoveAlloc}
 use Rattle.effects.specs.declared.Effect.{Effect}
-use Rattle.decisions.specs.declared.ranging.Target.{Target}
-use Rattle.decisions.specs.declared.ranging.Target.TheVariants.{To, Outside}
 use Rattle.effects.specs.Effects.{ignored, owes, is_ignored_lem}
 use Rattle.decisions.specs.Ranging.{absolute, moved, answered, ranging_time_lem}
 use Rattle.ids.specs.Places.{is_held}
-use Rattle.decisions.specs.Decisions.{assign_onu_id_lem, alloc_change_lem, assign_alloc_id_lem, request_registration_lem, disable, unknown_type_lem}
-use Rattle.decisions.specs.Decisions.{by_content_lem, is_broadcast, is_ours, effect_of, fitting, decision}
+use Rattle.decisions.specs.Decisions.{assign_onu_id_lem, alloc_change_lem, assign_alloc_id_lem, request_registration_lem, disable, unknown_type_lem, by_content_lem, is_broadcast, is_ours, effect_of, fitting, decision}
 use Rattle.decisions.specs.Acts.{act}
 use Rattle.decisions.proofs.Acting.{act-ignored}
 use Rattle.messages.specs.Receiving.{acting, receive, messages_from, receive_all, received_by, received_each_by}
@@ -75,9 +72,9 @@ module _ (q : Queue) (h : full_of q ≡ true) where
   unfolding Refused
   no_room change response seq = rw h
 
-  answered-refused : (to : Target) (seq : ℕ) → Refused q (answered to seq)
-  answered-refused (To delay) seq = no_room _ _ seq
-  answered-refused Outside seq = no_room _ _ seq
+  answered-refused : (to : Option ℕ) (seq : ℕ) → Refused q (answered to seq)
+  answered-refused (Some delay) seq = no_room _ _ seq
+  answered-refused None seq = no_room _ _ seq
 
   alloc_refused : (allocs : Allocs) (seq : ℕ) (id : AllocId) (change : AllocChange) → Refused q (alloc_change_lem allocs seq id change)
   alloc_refused allocs seq id Assign =
@@ -163,7 +160,7 @@ acting-inert : (s : Station) (g : Bool) (m : List ℕ) → inert s.link.onu (ful
 unfolding received
 acting-inert s g m h = go (ltb (length m) message_octets)
   where
-    go : (b : Bool) → acting s g (cond b Short (Whole (message_of m))) ≡ s
+    go : (b : Bool) → acting s g (cond b None (Some (message_of m))) ≡ s
     go true = refl
     go false = act-inert s g m h
 

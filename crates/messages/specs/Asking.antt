@@ -1,9 +1,9 @@
 -- What an effect asks of the state.
 -- Assumes nothing.
+use Rattle.std.specs.Prelude.{None, Option, Some}
+use Rattle.link.specs.declared.Owed.{Owed}
 use Rattle.effects.specs.declared.Change.{Change}
 use Rattle.effects.specs.declared.Change.TheVariants.{Keep, Identify, Range, Delay as Delays, AddAlloc, RemoveAlloc, Enter}
-use Rattle.effects.specs.declared.Debt.{Debt}
-use Rattle.effects.specs.declared.Debt.TheVariants.{Free, Owes}
 use Rattle.messages.specs.declared.Asked.{Asked}
 use Rattle.messages.specs.declared.Asked.TheVariants.{Nothing, Delay, More}
 
@@ -17,6 +17,6 @@ alone (AddAlloc id) = More
 alone (RemoveAlloc id) = More
 alone (Enter a) = More
 
-abbrev pub asked_of : Change → Debt → Asked
-asked_of change Free = alone change
-asked_of change (Owes answer) = More
+abbrev pub asked_of : Change → Option Owed → Asked
+asked_of change None = alone change
+asked_of change (Some answer) = More

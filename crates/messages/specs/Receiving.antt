@@ -1,6 +1,7 @@
 -- The messages of a frame: "Messages act one after another, each on the state left by the last".
 -- Assumes nothing.
-use Rattle.std.specs.Prelude.{ℕ, zero, suc, ◌+◌, ◌/◌, ◌≡◌, Bool, true, false, List, [], ◌∷◌, length}
+use Rattle.std.specs.Prelude.{None, Option, Some, ℕ, zero, suc, ◌+◌, ◌/◌, ◌≡◌, Bool, true, false, List, [], ◌∷◌, length}
+use Rattle.ploam.specs.declared.Message.{Message}
 use Rattle.cmac.specs.declared.Prepared.{Prepared}
 use Rattle.cmac.specs.Tags.{Ready}
 use Rattle.link.specs.declared.Key.{Key}
@@ -8,15 +9,13 @@ use Rattle.link.specs.Limits.{key_octets}
 use Rattle.ploam.specs.Layout.{message_octets, message_at}
 use Rattle.ploam.specs.Reading.{received}
 use Rattle.integrity.specs.Integrity.{installed_key_lem, genuine, genuine_by}
-use Rattle.ploam.specs.declared.Received.{Received}
-use Rattle.ploam.specs.declared.Received.TheVariants.{Whole, Short}
 use Rattle.station.specs.declared.Station.{Station}
 use Rattle.decisions.specs.Acts.{act}
 
 -- a message acts on the state in which it is considered, and is checked by the key held then
-abbrev pub acting : Station → Bool → Received → Station
-acting s isGenuine (Whole message) = act s isGenuine message
-acting s isGenuine Short = s
+abbrev pub acting : Station → Bool → Option Message → Station
+acting s isGenuine (Some message) = act s isGenuine message
+acting s isGenuine None = s
 
 unfoldable pub receive : Station → List ℕ → Station
 receive s m = acting s (genuine (installed_key_lem s.link.key.held s.link.key.octets) m) (received m)

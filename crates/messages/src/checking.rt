@@ -45,14 +45,10 @@ fn joins(onu: OnuId, full: bool, usual: bool, m: &[u8]) -> bool
     requires { message_octets ≤ length m.now }
     ensures { result ≡ true → by_usual_lem m.now ≡ usual }
 {
-    if inert::is_inert(onu, full, m) {
-        return false;
-    }
     let to = ploam::reading::address(m[0], m[1]);
-    if !may_act(to.is(OnuId::broadcast()), m[2], m[4]) {
-        return false;
-    }
-    by_usual(m) == usual
+    !inert::is_inert(onu, full, m)
+        && may_act(to == OnuId::broadcast(), m[2], m[4])
+        && by_usual(m) == usual
 }
 
 // Where the window, or what there is of it, ends.
@@ -80,21 +76,18 @@ fn gather(
 {
     let end = end_of(base, messages.len() / MESSAGE_OCTETS);
     *places = [i; 8];
-    let mut count: usize = 1;
-    let mut p = i + 1;
-    while p < end {
+    let mut count = 1;
+    for p in i + 1..end {
         if SIDE_BY_SIDE <= count {
             return count;
         }
-        if marks[p - base] == NOT_ASKED {
-            let at = MESSAGE_OCTETS * p;
-            let to = at + MESSAGE_OCTETS;
-            if joins(onu, full, usual, &messages[at..to]) {
-                places[count] = p;
-                count += 1;
-            }
+        let at = MESSAGE_OCTETS * p;
+        if marks[p - base] == NOT_ASKED
+            && joins(onu, full, usual, &messages[at..at + MESSAGE_OCTETS])
+        {
+            places[count] = p;
+            count += 1;
         }
-        p += 1;
     }
     count
 }
@@ -103,11 +96,8 @@ fn enter(places: &[usize; 8], count: usize, found: &[u8; 8], base: usize, marks:
     requires { (count ≤ 8) × ((j : ℕ) → j < 8 → Within base (at places.now j)) }
     ensures { marks.new ≡ entered base places.now found.now 0 count marks.old }
 {
-    let mut j: usize = 0;
-    while j < count {
-        let place = places[j];
-        marks[place - base] = found[j];
-        j += 1;
+    for j in 0..count {
+        marks[places[j] - base] = found[j];
     }
 }
 
@@ -132,8 +122,7 @@ fn check(
     ensures { Told (verdict_at usual installed messages.now) base i marks.new }
 {
     let at = MESSAGE_OCTETS * i;
-    let end = at + MESSAGE_OCTETS;
-    let is_usual = by_usual(&messages[at..end]);
+    let is_usual = by_usual(&messages[at..at + MESSAGE_OCTETS]);
     let mut places = [0usize; 8];
     let count = gather(onu, full, is_usual, messages, marks, base, i, &mut places);
     let key = chosen(is_usual, usual, installed);
@@ -147,10 +136,11 @@ fn window(i: usize, base: usize, marks: &mut [u8; 64]) -> usize
     ensures { (Within result i) × ((verdict : ℕ → ℕ) → Known verdict base marks.old → Known verdict result marks.new) }
 {
     if i - base < WINDOW {
-        return base;
+        base
+    } else {
+        *marks = [NOT_ASKED; 64];
+        i
     }
-    *marks = [NOT_ASKED; 64];
-    i
 }
 
 // The verdict of message i becomes known, if it isn't. Answers where the window of marks begins.

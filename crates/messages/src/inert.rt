@@ -8,22 +8,14 @@ use ids::OnuId;
 use link::Queue;
 use ploam::{DEACTIVATE_ONU_ID, MESSAGE_OCTETS};
 
+#[tactic(auto, unfolding(crate::specs::Inert::inert))]
 pub(crate) fn is_inert(onu: OnuId, full: bool, m: &[u8]) -> bool
     requires { message_octets ≤ length m.now }
     ensures { result ≡ inert onu full m.now }
 {
     let to = ploam::reading::address(m[0], m[1]);
-    if to.is(OnuId::broadcast()) {
-        return false;
-    }
-    if !to.is(onu) {
-        return true;
-    }
-    // the one type that can act on the station to which it is directed and owes no answer
-    if full {
-        return m[2] != DEACTIVATE_ONU_ID;
-    }
-    false
+    // of those to the station itself one type can act and owes no answer
+    to != OnuId::broadcast() && (to != onu || (full && m[2] != DEACTIVATE_ONU_ID))
 }
 
 // No further answer can be owed.
@@ -38,14 +30,11 @@ pub(crate) fn past_inert(onu: OnuId, full: bool, messages: &[u8], from: usize) -
     ensures { result ≡ past_inert_lem onu full messages.now from (length messages.now / message_octets - from) }
 {
     let n = messages.len() / MESSAGE_OCTETS;
-    let mut i = from;
-    while i < n {
+    for i in from..n {
         let at = MESSAGE_OCTETS * i;
-        let end = at + MESSAGE_OCTETS;
-        if !is_inert(onu, full, &messages[at..end]) {
+        if !is_inert(onu, full, &messages[at..at + MESSAGE_OCTETS]) {
             return i;
         }
-        i += 1;
     }
-    i
+    from.max(n)
 }

@@ -14,9 +14,9 @@ mod checking;
 mod inert;
 
 use cmac::Prepared;
-use effects::{Change, Debt, Effect};
+use effects::{Change, Effect};
 use link::Key;
-use ploam::{MESSAGE_OCTETS, Received};
+use ploam::MESSAGE_OCTETS;
 use station::Station;
 
 // What a message does, and where the window of verdicts then begins.
@@ -40,43 +40,33 @@ fn considered(
     ensures { (applied s result.effect ≡ received_by usual installed s (message_at messages.now i)) × (result.base ≤ i) × (Known (verdict_at usual installed messages.now) result.base marks.new) }
 {
     let at = MESSAGE_OCTETS * i;
-    let end = at + MESSAGE_OCTETS;
-    match ploam::reading::read(&messages[at..end]) {
-        Received::Whole(message) => {
-            let e = decisions::decide(s, message);
-            if e.is_ignored() {
-                return Consideration {
-                    effect: e,
-                    base: base,
-                };
+    match ploam::reading::read(&messages[at..at + MESSAGE_OCTETS]) {
+        Some(message) => {
+            let effect = decisions::decide(s, message);
+            if effect.is_ignored() {
+                return Consideration { effect, base };
             }
-            let link = s.link;
-            let onu = link.onu;
-            let owed = link.owed;
-            let start = checking::know(
+            let base = checking::know(
                 usual,
                 installed,
-                onu,
-                inert::is_full(owed),
+                s.link.onu,
+                inert::is_full(s.link.owed),
                 messages,
                 i,
                 base,
                 marks,
             );
-            if marks[i - start] == integrity::RIGHT {
-                return Consideration {
-                    effect: e,
-                    base: start,
-                };
+            if marks[i - base] == integrity::RIGHT {
+                return Consideration { effect, base };
             }
             Consideration {
                 effect: effects::ignored(),
-                base: start,
+                base,
             }
         }
-        Received::Short => Consideration {
+        None => Consideration {
             effect: effects::ignored(),
-            base: base,
+            base,
         },
     }
 }
@@ -93,19 +83,10 @@ pub enum Asked {
 fn asked_by(e: Effect) -> Asked
     ensures { result ≡ asked_of e.change e.debt }
 {
-    let change = e.change;
-    let debt = e.debt;
-    match debt {
-        Debt::Free => match change {
-            Change::Keep => Asked::Nothing,
-            Change::Identify(_) => Asked::More,
-            Change::Range(_) => Asked::More,
-            Change::Delay(delay) => Asked::Delay(delay),
-            Change::AddAlloc(_) => Asked::More,
-            Change::RemoveAlloc(_) => Asked::More,
-            Change::Enter(_) => Asked::More,
-        },
-        Debt::Owes(_) => Asked::More,
+    match (e.debt, e.change) {
+        (None, Change::Keep) => Asked::Nothing,
+        (None, Change::Delay(delay)) => Asked::Delay(delay),
+        _ => Asked::More,
     }
 }
 
@@ -127,20 +108,21 @@ fn receive_each(
     while i < n {
         let c = considered(usual, installed, next, messages, i, base, &mut marks);
         base = c.base;
-        let e = c.effect;
-        match asked_by(e) {
+        match asked_by(c.effect) {
             Asked::Nothing => {}
             Asked::Delay(delay) => {
                 next.link.delay = delay;
             }
             Asked::More => {
-                next = effects::apply(next, e);
+                next = effects::apply(next, c.effect);
             }
         }
-        let link = next.link;
-        let onu = link.onu;
-        let owed = link.owed;
-        i = inert::past_inert(onu, inert::is_full(owed), messages, i + 1);
+        i = inert::past_inert(
+            next.link.onu,
+            inert::is_full(next.link.owed),
+            messages,
+            i + 1,
+        );
     }
     next
 }
@@ -155,26 +137,22 @@ fn prepared(octets: [u8; 16]) -> Prepared
 pub fn installed_key(usual: Prepared, key: Key) -> Prepared
     ensures { Installed usual key result }
 {
-    let octets = key.octets;
     if key.held {
-        return prepared(octets);
+        prepared(key.octets)
+    } else {
+        usual
     }
-    usual
 }
 
 // What follows the last whole message is not looked at. No key is prepared where no message may act.
 pub fn receive_all(s: Station, messages: &[u8]) -> Station
     ensures { AllReceived s messages.now result }
 {
-    let link = s.link;
-    let onu = link.onu;
-    let owed = link.owed;
-    let first = inert::past_inert(onu, inert::is_full(owed), messages, 0);
+    let first = inert::past_inert(s.link.onu, inert::is_full(s.link.owed), messages, 0);
     if messages.len() / MESSAGE_OCTETS <= first {
         return s;
     }
     let usual = integrity::default_key();
-    let key = link.key;
-    let installed = installed_key(usual, key);
+    let installed = installed_key(usual, s.link.key);
     receive_each(usual, installed, s, messages, first)
 }

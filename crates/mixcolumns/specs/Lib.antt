@@ -1,5 +1,2 @@
 pub mod Columns
-pub mod First
-pub mod Second
-pub mod Third
-pub mod Fourth
+pub mod Mixed

@@ -2,13 +2,14 @@
 -- Assumes nothing.
 use mathlib.Core.Path.{◌≡◌, refl, sym, ap, ap₂, ◌∙◌, subst}
 use mathlib.Core.List.{List, [], ◌∷◌, ◌++◌}
+use mathlib.Core.Bool.{cond}
+use borrow.Author.Tests.{le-leb}
 use Prim.Native.Nat.{ℕ, zero, suc, ◌+◌, ◌*◌, ◌/◌, ◌%◌, ◌^◌, ◌≤◌, ◌<◌}
 use native.Mathlib.Nat.{pow-suc, mul_comm, mul_assoc, add_comm, add-mul-div_right, mod-eq_of_lt}
 use native.Mathlib.Omega.{arith}
-use lib.Arith.{lt-one, mod-mul, digits_div, digits_mod, digits_lt}
-use lib.Dec.{lit<}
-use lib.ListN.{length, get_or, take, drop, length-drop}
-use lib.Seq.{drop-cons, take_all, length-take-le}
+use lib.Arith.{mod-mul, digits_div, digits_lt}
+use lib.Dec.{lit<, leb}
+use lib.ListN.{length, take, drop}
 use Rattle.octets.specs.Octets.{value, octets}
 
 pub power_pos : (n : ℕ) → 0 < 256 ^ n
@@ -59,23 +60,10 @@ octets-value [] b = refl
 octets-value (x ∷ xs) (h, b) =
     ap₂ ◌∷◌ (ap (λ (y : ℕ). y % 256) (digits_div x (value_lt xs b)) ∙ mod-eq_of_lt h) (octets_above (length xs) x (value xs) ∙ octets-value xs b)
 
--- the number of n + 1 octets from place k: the first, and that of the others
-pub value-step : (s : List ℕ) (k n : ℕ) → k + suc n ≤ length s → value (take (suc n) (drop k s)) ≡ get_or s k 0 * 256 ^ n + value (take n (drop (suc k) s))
-value-step s k n h =
-    ap (λ (l : List ℕ). value (take (suc n) l)) (drop-cons s k 0 (omega arith))
-    ∙ ap (λ (m : ℕ). get_or s k 0 * 256 ^ m + value (take n (drop (suc k) s))) (length-take-le n (drop (suc k) s) (omega (arith, length-drop (suc k) s)))
+-- what `Number::read` gives of a slice that is long enough
+pub read_whole : (n x : ℕ) (s : List ℕ) → x ≡ cond (leb n (length s)) (value (take n s)) 0 → n ≤ length s → x ≡ value (take n s)
+read_whole n x s e h = e ∙ rw (le-leb n (length s) h)
 
--- ---- octet by octet
-
--- n octets from place k on
-abbrev pub octets_from : List ℕ → ℕ → ℕ → List ℕ
-octets_from s k zero = []
-octets_from s k (suc n) = get_or s k 0 ∷ octets_from s (suc k) n
-
-pub part-octets : (s : List ℕ) (k n : ℕ) → k + n ≤ length s → take n (drop k s) ≡ octets_from s k n
-part-octets s k zero h = refl
-part-octets s k (suc n) h =
-    ap (take (suc n)) (drop-cons s k 0 (omega arith)) ∙ ap (λ (l : List ℕ). get_or s k 0 ∷ l) (part-octets s (suc k) n (omega arith))
-
-pub all_octets : (s : List ℕ) (n : ℕ) → length s ≡ n → s ≡ octets_from s 0 n
-all_octets s n e = sym (take_all n s (omega arith)) ∙ part-octets s 0 n (omega arith)
+-- what `Number::put` leaves of a target that is long enough
+pub put_whole : (n v : ℕ) (t u : List ℕ) → u ≡ cond (leb n (length t)) (octets n v ++ drop n t) t → n ≤ length t → u ≡ octets n v ++ drop n t
+put_whole n v t u e h = e ∙ rw (le-leb n (length t) h)

@@ -8,14 +8,13 @@ use Prim.Native.Nat.{ℕ, ◌+◌, ◌<◌, ◌≤◌}
 use lib.Dec.{eqb, leb}
 use lib.ListN.{length, take, drop}
 use borrow.Author.Tests.{lt-leb}
+use Rattle.std.specs.Prelude.{None, Option, ℕ}
 use Rattle.ids.specs.declared.PortId.{PortId}
 use Rattle.hec.specs.Reads.{reading}
 use Rattle.xgem.specs.declared.frame.XgemHeader.{XgemHeader}
 use Rattle.octets.specs.Octets.{value}
 use Rattle.xgem.specs.Layouts.{xgem_of, payload_size_lem}
 use Rattle.xgem.specs.Reads.{Found, fields, taken as taken-fields, short, read_xgem_lem}
-use Rattle.ids.specs.declared.Place.{Place}
-use Rattle.ids.specs.declared.Place.TheVariants.{Nowhere}
 use Rattle.ports.specs.declared.Ports.{Ports}
 use Rattle.fragments.specs.declared.Reassembly.TheVariants.{Ignored}
 use Rattle.fragments.specs.Fragments.{slot_in_lem, slot_of, at_place_lem, reassembly_of_lem}
@@ -28,14 +27,14 @@ use Rattle.payload.proofs.Steps.{done-ignored, taken-by, ids_taken}
 use Rattle.payload.proofs.Walks.{parse_lost, walk_next}
 
 -- a frame whose port has no slot does nothing
-no_effect : (p : Ports) (own port : PortId) (last : Bool) (n : ℕ) → slot_of p own port ≡ Nowhere → reassembly_of_lem p own port last n ≡ Ignored
-no_effect p own port last n h = ap (λ (q : Place). cond (eqb n 0) Ignored (at_place_lem p.lengths p.waiting last n q)) h ∙ go (eqb n 0)
+no_effect : (p : Ports) (own port : PortId) (last : Bool) (n : ℕ) → slot_of p own port ≡ None → reassembly_of_lem p own port last n ≡ Ignored
+no_effect p own port last n h = ap (λ (q : Option ℕ). cond (eqb n 0) Ignored (at_place_lem p.lengths p.waiting last n q)) h ∙ go (eqb n 0)
   where
     go : (b : Bool) → cond b Ignored Ignored ≡ Ignored
     go true = refl
     go false = refl
 
-foreign : (own : PortId) (s : Receiver) (port : PortId) (last : Bool) (body : List ℕ) → slot_of s.ports own port ≡ Nowhere → taken own s port last body ≡ s
+foreign : (own : PortId) (s : Receiver) (port : PortId) (last : Bool) (body : List ℕ) → slot_of s.ports own port ≡ None → taken own s port last body ≡ s
 foreign own s port last body h = sym (taken-by s port body own last _ _ s refl (no_effect s.ports own port last (length body) h) (done-ignored s port body))
 
 -- a header stands in the first eight bytes
@@ -44,7 +43,7 @@ next-same s t e l =
     ap₂ (λ (h : List ℕ) (n : ℕ). ahead (cond (leb 8 n) (taken-fields xgem_of (reading 64 (value h))) short) n) e l
 
 -- the two frames do the same
-same_taken : (own : PortId) (s : Receiver) (port : PortId) (last : Bool) (a b : List ℕ) → (slot_of s.ports own port ≡ Nowhere) ⊎ (a ≡ b)
+same_taken : (own : PortId) (s : Receiver) (port : PortId) (last : Bool) (a b : List ℕ) → (slot_of s.ports own port ≡ None) ⊎ (a ≡ b)
     → taken own s port last a ≡ taken own s port last b
 same_taken own s port last a b (inl h) = foreign own s port last a h ∙ sym (foreign own s port last b h)
 same_taken own s port last a b (inr e) = ap (taken own s port last) e

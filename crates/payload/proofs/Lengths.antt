@@ -1,15 +1,14 @@
 -- The lengths of the partials: their sum, and that each stays within its slot.
 -- Assumes nothing.
 use mathlib.Core.Path.{◌≡◌}
-use mathlib.Core.Bool.{true, false}
+use mathlib.Core.Bool.{true}
 use mathlib.Core.List.{List, [], ◌∷◌}
 use Prim.Native.Nat.{ℕ, zero, suc, ◌+◌, ◌*◌, ◌≤◌, ◌<◌, zero-le}
 use native.Mathlib.Nat.{le_of_suc-le-suc, not-suc-le-zero}
 use native.Mathlib.Omega.{arith}
-use borrow.Author.Tests.{le-leb, lt-leb, leb-true}
+use borrow.Author.Tests.{leb-true}
 use lib.Dec.{leb}
-use lib.ListN.{length, get_or, set, drop, drop_of_length-le}
-use lib.Seq.{drop-cons}
+use lib.ListN.{length, get_or, set}
 use Rattle.bch.proofs.Both.{and_left, and_right}
 use Rattle.ports.specs.Limits.{slot_bytes}
 use Rattle.payload.specs.Walk.{all_within_lem}
@@ -34,16 +33,6 @@ lengths_set (x ∷ xs) zero v h k zero = h
 lengths_set (x ∷ xs) zero v h k (suc j) = k (suc j)
 lengths_set (x ∷ xs) (suc i) v h k zero = k zero
 lengths_set (x ∷ xs) (suc i) v h k (suc j) = lengths_set xs i v h (λ m. k (suc m)) j
-
--- the test of all lengths, one after the other
-pub within_hit : (l : List ℕ) (i : ℕ) → i < length l → slot_bytes < get_or l i 0 → all_within_lem (drop i l) ≡ false
-within_hit l i h g = rw (drop-cons l i 0 h, lt-leb (get_or l i 0) slot_bytes g)
-
-pub within_miss : (l : List ℕ) (i : ℕ) → i < length l → get_or l i 0 ≤ slot_bytes → all_within_lem (drop i l) ≡ all_within_lem (drop (suc i) l)
-within_miss l i h g = rw (drop-cons l i 0 h, le-leb (get_or l i 0) slot_bytes g)
-
-pub within_end : (l : List ℕ) (i : ℕ) → length l ≤ i → all_within_lem (drop i l) ≡ true
-within_end l i h = rw (drop_of_length-le l h)
 
 pub each_within : (l : List ℕ) → all_within_lem l ≡ true → (i : ℕ) → get_or l i 0 ≤ slot_bytes
 each_within [] e i = zero-le

@@ -1,27 +1,14 @@
 -- What stands in a list after something was put into a place of it.
 -- Assumes nothing.
 use mathlib.Core.Path.{◌≡◌, refl, sym, ap, ◌∙◌}
-use Prim.Native.Nat.{ℕ, zero, suc, ◌+◌, ◌-◌, ◌≤◌, ◌<◌}
-use native.Mathlib.Nat.{le_refl, add-zero}
+use Prim.Native.Nat.{ℕ, suc, zero, ◌+◌, ◌-◌, ◌*◌, ◌≤◌, ◌<◌}
+use native.Mathlib.Nat.{add-zero}
 use native.Mathlib.Omega.{arith}
-use mathlib.Core.List.{List, [], ◌∷◌, ◌++◌, append_assoc}
-use lib.ListN.{length, take, drop, get_or, set, length-append, length-take, length-drop, take-append-drop}
-use lib.Seq.{take_all, drop-cons, take_at, drop_at, take-add, take-append-le, drop-append-add, drop-append-le, drop-drop, length-take-le}
+use mathlib.Core.List.{List, [], ◌++◌, append_assoc}
+use lib.ListN.{length, get_or, take, drop, length-append, length-drop, take-append-drop}
+use lib.Seq.{take_at, drop_at, take-add, take-append-le, drop-append-add, drop-append-le, drop-drop, length-take-le}
+use Rattle.std.specs.Simd.{first_chunks}
 use Rattle.payload.specs.Memory.{put}
-
--- the rest of a list, in two pieces
-drop_seam : (n k : ℕ) (l : List ℕ) → n ≤ k → k ≤ length l → drop n (take k l) ++ drop k l ≡ drop n l
-drop_seam n k l h g =
-    let e : length (take k l) ≡ k = length-take-le k l g in
-    sym (drop-append-le n (take k l) (drop k l) (omega arith)) ∙ ap (drop n) (take-append-drop k l)
-
--- what stands in d after a part of it, k bytes from index a, was lent and came back with s laid over its front
-pub part-put : (d s : List ℕ) (a k : ℕ) → length s ≤ k → a + k ≤ length d
-    → take a d ++ ((s ++ drop (length s) (take k (drop a d))) ++ drop k (drop a d)) ≡ put d a s
-unfolding put
-part-put d s a k h g =
-    let e : k ≤ length (drop a d) = simp length-drop (omega arith) in
-    ap (λ l. take a d ++ l) (append_assoc s _ _ ∙ ap (λ l. s ++ l) (drop_seam (length s) k (drop a d) h e ∙ drop-drop (length s) a d))
 
 -- the list is as long as it was
 pub length-put : (d : List ℕ) (a : ℕ) (s : List ℕ) → a + length s ≤ length d → length (put d a s) ≡ length d
@@ -104,21 +91,17 @@ module _ (d s : List ℕ) (a i : ℕ) (t : List ℕ) (so_far : t ≡ put d a (ta
       ∙ put-put d a (take i s) o (a + i) (ap (λ (k : ℕ). a + k) (sym (length-take-le i s h))) g
       ∙ ap (put d a) j
 
-  part : take (length s - i) (drop i s) ≡ drop i s
-  part = take_all (length s - i) (drop i s) (simp length-drop (le_refl _))
-
-  pub put-eight : (u o : List ℕ) → u ≡ put t (a + i) o → o ≡ take 8 (take (length s - i) (drop i s)) → u ≡ put d a (take (i + 8) s)
+  pub put-eight : (u o : List ℕ) → u ≡ put t (a + i) o → o ≡ take 8 (drop i s) → u ≡ put d a (take (i + 8) s)
   put-eight u o e p =
-      put_more u o (take (i + 8) s) e (ap (λ (x : List ℕ). take i s ++ x) (p ∙ ap (take 8) part) ∙ sym (take-add i 8 s))
+      put_more u o (take (i + 8) s) e (ap (λ (x : List ℕ). take i s ++ x) p ∙ sym (take-add i 8 s))
 
-  pub put_rest : (u : List ℕ) → u ≡ put t (a + i) (take (length s - i) (drop i s)) → u ≡ put d a s
-  put_rest u e = put_more u (take (length s - i) (drop i s)) s e (ap (λ (x : List ℕ). take i s ++ x) part ∙ take-append-drop i s)
+  pub put_rest : (u : List ℕ) → u ≡ put t (a + i) (drop i s) → u ≡ put d a s
+  put_rest u e = put_more u (drop i s) s e (take-append-drop i s)
 
--- n elements from index j, one by one
-abbrev each : List ℕ → ℕ → ℕ → List ℕ
-each s j zero = []
-each s j (suc n) = get_or s j 0 ∷ each s (suc j) n
-
-pub each_take : (s : List ℕ) (j n : ℕ) → j + n ≤ length s → each s j n ≡ take n (drop j s)
-each_take s j zero h = refl
-each_take s j (suc n) h = ap (λ (x : List ℕ). get_or s j 0 ∷ x) (each_take s (suc j) n (omega arith)) ∙ ap (take (suc n)) (sym (drop-cons s j 0 (omega arith)))
+-- the eights of a list, one after another
+pub eight_at : (k i : ℕ) (s : List ℕ) → i < k → get_or (first_chunks 8 k s) i [] ≡ take 8 (drop (8 * i) s)
+eight_at zero i s h = absurd (omega arith)
+eight_at (suc k) zero s h = refl
+eight_at (suc k) (suc i) s h =
+    let m : 8 + 8 * i ≡ 8 * suc i = omega arith in
+    eight_at k i (drop 8 s) (omega arith) ∙ ap (take 8) (drop-drop (8 * i) 8 s ∙ ap (λ (j : ℕ). drop j s) m)

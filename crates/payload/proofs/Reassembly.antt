@@ -10,6 +10,7 @@ use borrow.Author.Tests.{ne_eqb, le-leb, le-ltb, lt-ltb}
 use lib.Dec.{eqb, ltb}
 use lib.ListN.{length, get_or, take, drop, set, length-append, length-set}
 use lib.Seq.{drop_at, get_or-set_same}
+use Rattle.std.specs.Prelude.{Some, ℕ}
 use Rattle.ids.specs.declared.PortId.{PortId}
 use Rattle.bch.specs.Code.{distance}
 use Rattle.hec.proofs.Words.{undamaged}
@@ -22,8 +23,6 @@ use Rattle.xgem.proofs.Numbers.{octets-length, value-octets}
 use Rattle.xgem.proofs.Layouts.{xgem_true}
 use Rattle.xgem.proofs.Frames.{frame-length}
 use Rattle.xgem.proofs.RoundTrips.{frame-mended, octets-bytes}
-use Rattle.ids.specs.declared.Place.{Place}
-use Rattle.ids.specs.declared.Place.TheVariants.{At}
 use Rattle.ports.specs.Limits.{slots, sdu_bytes}
 use Rattle.fragments.specs.declared.Reassembly.TheVariants.{Delivered, Appended}
 use Rattle.fragments.specs.Fragments.{slot_of, at_slot_lem, at_place_lem, reassembly_of_lem}
@@ -78,7 +77,7 @@ module _ (x : XgemHeader) (h : Fits x) (last : Bool) (f rest : List ℕ) (l : le
 
 -- the port's slot holds what has come of the SDU so far
 pub record Holding (own : PortId) (s : Receiver) (port : PortId) (i : ℕ) (acc : List ℕ) : Type 0 where
-  pub slot : slot_of s.ports own port ≡ At i
+  pub slot : slot_of s.ports own port ≡ Some i
   pub small : i < slots
   pub count : length s.ports.lengths ≡ slots
   pub clear : get_or s.ports.waiting i false ≡ false

@@ -3,7 +3,6 @@ ghost use Rattle.std.specs.Prelude.{◌≡◌, length};
 ghost use Rattle.payload.specs.Frames.{next_of};
 ghost use Rattle.payload.specs.Inside.{Inside};
 
-use hec::Reading64;
 use xgem::XgemHeader;
 
 pub const XGEM_HEADER_BYTES: usize = 8;
@@ -15,7 +14,9 @@ pub enum Next {
     Frame(XgemHeader),
 }
 
-pub(crate) fn next_frame(left: &[u8]) -> Next
+// What the walk and the search for a stretch ask at each header: it is merged into the loop of each.
+#[inline(always)]
+pub fn next_frame(left: &[u8]) -> Next
     ensures { (result ≡ next_of left.now) × (Inside result (length left.now)) }
 {
     let read = hec::read64_by_octets(xgem::word_ahead(left));
@@ -23,8 +24,8 @@ pub(crate) fn next_frame(left: &[u8]) -> Next
         return Next::Done;
     }
     match read {
-        Reading64::Unreadable => Next::Lost,
-        Reading64::Word(w) => {
+        None => Next::Lost,
+        Some(w) => {
             let x = XgemHeader::of(w);
             if left.len() - XGEM_HEADER_BYTES < xgem::payload_size(x.pli) {
                 Next::Lost

@@ -5,5 +5,5 @@ mod frames;
 mod memory;
 mod walk;
 
-pub use frames::{Next, XGEM_HEADER_BYTES};
+pub use frames::{Next, XGEM_HEADER_BYTES, next_frame};
 pub use walk::{Delineation, MEMORY_BYTES, Received, receive};

@@ -1,5 +1,5 @@
 // One XGEM frame at work: on the ports, the port memory and the deliveries.
-ghost use Rattle.std.specs.Prelude.{◌≡◌, ◌++◌, ℕ, ◌+◌, ◌≤◌, ◌<◌, ◌^◌, length, take, drop};
+ghost use Rattle.std.specs.Prelude.{◌≡◌, ◌++◌, ◌+◌, ◌≤◌, ◌<◌, ◌^◌, length};
 ghost use Rattle.ports.specs.Limits.{slots, sdu_bytes, slot_bytes};
 ghost use Rattle.ports.specs.Ports.{ports_of};
 ghost use Rattle.payload.specs.Memory.{receiver_of, put, delivery, partial, extended, taken};
@@ -8,30 +8,16 @@ ghost use Rattle.payload.specs.Bounds.{Ready};
 
 use fragments::Reassembly;
 use ids::PortId;
+use octets::Number;
 use ports::{ADDED_PORTS, SLOT_BYTES, SLOTS};
 
-// All of a slice to the front of another.
-fn copy(s: &[u8], target: &mut [u8])
-    requires { length s.now ≤ length target.old }
-    ensures { target.new ≡ s.now ++ drop (length s.now) target.old }
-{
-    let n = s.len();
-    target[..n].copy_from_slice(s);
-}
-
-// All of a slice into a place of another: its end from there is lent on.
+// All of a slice into a place of another.
+#[tactic(auto, unfolding(crate::specs::Memory::put))]
 fn lay_at(target: &mut [u8], at: usize, s: &[u8])
     requires { at + length s.now ≤ length target.old }
     ensures { target.new ≡ put target.old at s.now }
 {
-    copy(s, &mut target[at..]);
-}
-
-fn eight(s: &[u8]) -> [u8; 8]
-    requires { 8 ≤ length s.now }
-    ensures { result ≡ take 8 s.now }
-{
-    [s[0], s[1], s[2], s[3], s[4], s[5], s[6], s[7]]
+    target[at..at + s.len()].copy_from_slice(s);
 }
 
 // Eight octets are held before they are written: whether the two slices overlap, which a plain copy asks first, is then no
@@ -40,13 +26,14 @@ fn lay_short(target: &mut [u8], at: usize, s: &[u8])
     requires { at + length s.now ≤ length target.old }
     ensures { target.new ≡ put target.old at s.now }
 {
-    let mut i: usize = 0;
-    while 8 <= s.len() - i {
-        let octets = eight(&s[i..]);
-        lay_at(target, at + i, &octets);
-        i += 8;
+    let (eights, rest) = s.as_chunks::<8>();
+    let mut to = at;
+    for eight in eights {
+        let octets = *eight;
+        lay_at(target, to, &octets);
+        to += 8;
     }
-    lay_at(target, at + i, &s[i..]);
+    lay_at(target, to, rest);
 }
 
 fn lay_body(target: &mut [u8], at: usize, s: &[u8])
@@ -61,6 +48,7 @@ fn lay_body(target: &mut [u8], at: usize, s: &[u8])
 }
 
 // The bytes of a slot's unfinished SDU into a place of the deliveries.
+#[tactic(auto, unfolding(crate::specs::Memory::partial))]
 fn lay_partial(target: &mut [u8], at: usize, memory: &[u8], slot: usize, have: usize)
     requires { (slot < slots) × (have ≤ slot_bytes) × (memory_bytes ≤ length memory.now) × (at + have ≤ length target.old) }
     ensures { target.new ≡ put target.old at (partial memory.now slot have) }
@@ -70,14 +58,13 @@ fn lay_partial(target: &mut [u8], at: usize, memory: &[u8], slot: usize, have: u
     lay_at(target, at, &memory[from..to]);
 }
 
-// More bytes behind those of a slot's unfinished SDU: the slot's unused end, and nothing behind it, is lent for them.
+// More bytes behind those of a slot's unfinished SDU.
+#[tactic(auto, unfolding(crate::specs::Memory::extended))]
 fn extend(memory: &mut [u8], slot: usize, have: usize, body: &[u8])
     requires { (slot < slots) × (have + length body.now ≤ slot_bytes) × (memory_bytes ≤ length memory.old) }
     ensures { memory.new ≡ extended memory.old slot have body.now }
 {
-    let from = slot * SLOT_BYTES + have;
-    let to = slot * SLOT_BYTES + SLOT_BYTES;
-    copy(body, &mut memory[from..to]);
+    lay_at(memory, slot * SLOT_BYTES + have, body);
 }
 
 // A delivery at a place: Port-ID, length, the bytes of the partial and those of the last fragment.
@@ -95,12 +82,9 @@ fn deliver(
     ensures { target.new ≡ put target.old at (delivery port (partial memory.now slot have ++ body.now)) }
 {
     let n = have + body.len();
-    let head = [
-        (port.0 / 256 % 256) as u8,
-        (port.0 / 1 % 256) as u8,
-        (n / 256 % 256) as u8,
-        (n / 1 % 256) as u8,
-    ];
+    let mut head = [0u8; 4];
+    port.0.put(&mut head);
+    (n as u16).put(&mut head[2..]);
     lay_at(target, at, &head);
     let b = at + 4;
     lay_partial(target, b, memory, slot, have);

@@ -32,21 +32,14 @@ pub struct Received {
 fn all_within(lengths: [u16; SLOTS]) -> bool
     ensures { result ≡ all_within_lem lengths }
 {
-    let mut i: usize = 0;
-    while i < SLOTS {
-        if SLOT_BYTES < lengths[i] as usize {
-            return false;
-        }
-        i += 1;
-    }
-    true
+    lengths.iter().all(|n| usize::from(*n) <= SLOT_BYTES)
 }
 
 fn unfit(ports: Ports) -> Received
     ensures { result ≡ record { ports = ports; bytes = 0; delineation = Delineation.Unfit } }
 {
     Received {
-        ports: ports,
+        ports,
         bytes: 0,
         delineation: Delineation::Unfit,
     }
@@ -55,10 +48,9 @@ fn unfit(ports: Ports) -> Received
 fn lost(ports: Ports, bytes: usize) -> Received
     ensures { result ≡ record { ports = drop_all_lem ports; bytes = bytes; delineation = Delineation.Lost } }
 {
-    let dropped = ports.drop_all();
     Received {
-        ports: dropped,
-        bytes: bytes,
+        ports: ports.drop_all(),
+        bytes,
         delineation: Delineation::Lost,
     }
 }
@@ -67,8 +59,8 @@ fn kept(ports: Ports, bytes: usize) -> Received
     ensures { result ≡ record { ports = ports; bytes = bytes; delineation = Delineation.Kept } }
 {
     Received {
-        ports: ports,
-        bytes: bytes,
+        ports,
+        bytes,
         delineation: Delineation::Kept,
     }
 }

@@ -2,7 +2,7 @@
 #![tactic(auto)]
 
 ghost use Rattle.std.specs.Prelude.{◌≤◌, ◌≡◌};
-ghost use Rattle.plan.specs.Records.{mark, burst_flags_lem, head_flags_lem, more_flags_lem, placed};
+ghost use Rattle.plan.specs.Records.{burst_flags_lem, head_flags_lem, more_flags_lem, placed};
 
 use xgtc::allocation::Allocation;
 
@@ -23,43 +23,37 @@ const FWI: u16 = 8;
 
 const PROFILE: u16 = 16;
 
-fn flag(set: bool, weight: u16) -> u16
-    ensures { (result ≡ mark set weight) × (result ≤ weight) }
-{
-    if set { weight } else { 0 }
-}
-
+#[tactic(auto, unfolding(crate::specs::Records::burst_flags_lem))]
 fn burst_flags(h: Allocation) -> u16
     ensures { (result ≡ burst_flags_lem h) × (result ≤ 4096) }
 {
-    flag(h.fwi, FWI) + h.profile as u16 * PROFILE
+    u16::from(h.fwi) * FWI + u16::from(h.profile) * PROFILE
 }
 
+#[tactic(auto, unfolding(crate::specs::Records::head_flags_lem))]
 pub fn head_flags(h: Allocation) -> u16
     ensures { result ≡ head_flags_lem h }
 {
-    HEAD + flag(h.ploamu, PLOAMU) + flag(h.dbru, DBRU) + burst_flags(h)
+    HEAD + u16::from(h.ploamu) * PLOAMU + u16::from(h.dbru) * DBRU + burst_flags(h)
 }
 
 // Those of an entry that continues the burst of the head h.
+#[tactic(auto, unfolding(crate::specs::Records::more_flags_lem))]
 pub fn more_flags(h: Allocation, a: Allocation) -> u16
     ensures { result ≡ more_flags_lem h a }
 {
-    flag(a.dbru, DBRU) + burst_flags(h)
+    u16::from(a.dbru) * DBRU + burst_flags(h)
 }
 
 // The record of an entry from a place of the plan on; a plan without room for it is left as it is.
+#[tactic(auto, unfolding(crate::specs::Records::placed))]
 pub fn write_record(plan: &mut [u16], at: usize, a: Allocation, flags: u16, start: u16)
     ensures { plan.new ≡ placed plan.old at a flags start }
 {
-    if plan.len() < NUMBERS_A_RECORD {
+    if plan.len() < NUMBERS_A_RECORD || plan.len() - NUMBERS_A_RECORD < at {
         return;
     }
-    if plan.len() - NUMBERS_A_RECORD < at {
-        return;
-    }
-    let id = a.alloc;
-    plan[at] = id.0;
+    plan[at] = a.alloc.0;
     plan[at + 1] = flags;
     plan[at + 2] = start;
     plan[at + 3] = a.grant;

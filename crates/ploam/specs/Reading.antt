@@ -1,10 +1,9 @@
 -- What a downstream message says: clause 11.3.3, as far as document 01 uses it.
 -- Assumes nothing.
-use Rattle.std.specs.Prelude.{ℕ, ◌+◌, ◌-◌, ◌/◌, ◌%◌, cond, List, length, eqb, ltb}
+use Rattle.std.specs.Prelude.{None, Option, Some, ℕ, ◌+◌, ◌-◌, ◌/◌, ◌%◌, cond, List, length, eqb, ltb}
 use Rattle.ids.specs.declared.OnuId.{OnuId}
 use Rattle.ids.specs.declared.AllocId.{AllocId}
-use Rattle.ploam.specs.Layout.{message_octets, at32, octet, number16, number32, address_of, type_of, seq_no_of}
-use Rattle.ploam.specs.Layout.{profile, assign_onu_id_lem, ranging_time_lem, deactivate_onu_id, disable_serial_number, request_registration_lem, assign_alloc_id_lem, key_control, sleep_allow}
+use Rattle.ploam.specs.Layout.{message_octets, at32, octet, number16, number32, address_of, type_of, seq_no_of, profile, assign_onu_id_lem, ranging_time_lem, deactivate_onu_id, disable_serial_number, request_registration_lem, assign_alloc_id_lem, key_control, sleep_allow}
 use Rattle.ploam.specs.declared.SerialNumber.{SerialNumber}
 use Rattle.ploam.specs.declared.Adjustment.{Adjustment}
 use Rattle.ploam.specs.declared.Adjustment.TheVariants.{Absolute, Add, Subtract}
@@ -15,8 +14,6 @@ use Rattle.ploam.specs.declared.AllocChange.TheVariants.{Assign, Deallocate, Oth
 use Rattle.ploam.specs.declared.Content.{Content}
 use Rattle.ploam.specs.declared.Content.TheVariants.{Profile, AssignOnuId, RangingTime, DeactivateOnuId, DisableSerialNumber, RequestRegistration, AssignAllocId, KeyControl, SleepAllow, Unknown}
 use Rattle.ploam.specs.declared.Message.{Message}
-use Rattle.ploam.specs.declared.Received.{Received}
-use Rattle.ploam.specs.declared.Received.TheVariants.{Whole, Short}
 
 -- Vendor-ID and VSSN, at an index, and from octet n on
 abbrev pub serial_at_lem : List ℕ → ℕ → SerialNumber
@@ -80,5 +77,5 @@ abbrev pub message_of : List ℕ → Message
 message_of m = record { address = address_of m; seq = seq_no_of m; content = content_of m }
 
 -- a slice under 48 octets holds no message
-unfoldable pub received : List ℕ → Received
-received m = cond (ltb (length m) message_octets) Short (Whole (message_of m))
+unfoldable pub received : List ℕ → Option Message
+received m = cond (ltb (length m) message_octets) None (Some (message_of m))

@@ -38,7 +38,7 @@ pub const REGISTRATION: u8 = 0x02;
 pub const ACKNOWLEDGEMENT: u8 = 0x09;
 
 // Vendor-ID and vendor-specific serial number.
-#[derive(Clone, Copy)]
+#[derive(Clone, Copy, PartialEq, Eq)]
 pub struct SerialNumber {
     pub vendor: u32,
     pub vssn: u32,
@@ -114,11 +114,4 @@ impl Completion {
             Completion::ProcessingError => 5,
         }
     }
-}
-
-// A slice under 48 octets is short.
-#[derive(Clone, Copy)]
-pub enum Received {
-    Whole(Message),
-    Short,
 }

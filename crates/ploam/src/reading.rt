@@ -7,9 +7,10 @@ ghost use Rattle.ploam.specs.Reading.{serial_at_lem, adjustment_of, switch_of, c
 use super::{
     ASSIGN_ALLOC_ID, ASSIGN_ONU_ID, Adjustment, AllocChange, Content, DEACTIVATE_ONU_ID,
     DISABLE_SERIAL_NUMBER, KEY_CONTROL, MESSAGE_OCTETS, Message, PROFILE, RANGING_TIME,
-    REQUEST_REGISTRATION, Received, SLEEP_ALLOW, SerialNumber, Switch,
+    REQUEST_REGISTRATION, SLEEP_ALLOW, SerialNumber, Switch,
 };
 use ids::{AllocId, OnuId};
+use octets::Number;
 
 // An ONU-ID in two octets has ten bits; the upper six are ignored.
 pub const ADDRESSES: u16 = 1024;
@@ -18,21 +19,21 @@ pub const ADDRESSES: u16 = 1024;
 pub fn address(high: u8, low: u8) -> OnuId
     ensures { result ≡ address_by high low }
 {
-    OnuId(octets::join16(high, low) % ADDRESSES)
+    OnuId(u16::read(&[high, low]) % ADDRESSES)
 }
 
 fn number16(m: &[u8], i: usize) -> u16
     requires { i + 2 ≤ length m.now }
     ensures { result ≡ at16 m.now i }
 {
-    octets::join16(m[i], m[i + 1])
+    u16::read(&m[i..])
 }
 
 fn number32(m: &[u8], i: usize) -> u32
     requires { i + 4 ≤ length m.now }
     ensures { result ≡ at32 m.now i }
 {
-    octets::join32(m[i], m[i + 1], m[i + 2], m[i + 3])
+    u32::read(&m[i..])
 }
 
 fn serial_at(m: &[u8], i: usize) -> SerialNumber
@@ -100,6 +101,7 @@ fn change(o: u8) -> AllocChange
     }
 }
 
+#[tactic(auto, unfolding(crate::specs::Reading::content_as))]
 fn content(m: &[u8]) -> Content
     requires { message_octets ≤ length m.now }
     ensures { result ≡ content_of m.now }
@@ -119,13 +121,15 @@ fn content(m: &[u8]) -> Content
     }
 }
 
-pub fn read(m: &[u8]) -> Received
+// None where the slice is shorter than a message.
+#[tactic(auto, unfolding(crate::specs::Reading::received))]
+pub fn read(m: &[u8]) -> Option<Message>
     ensures { result ≡ received m.now }
 {
     if m.len() < MESSAGE_OCTETS {
-        return Received::Short;
+        return None;
     }
-    Received::Whole(Message {
+    Some(Message {
         address: address(m[0], m[1]),
         seq: m[3],
         content: content(m),

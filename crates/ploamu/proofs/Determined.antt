@@ -6,15 +6,16 @@ use mathlib.Core.List.{List}
 use Prim.Native.Nat.{ℕ, ◌<◌}
 use lib.ListN.{length}
 use borrow.Author.Tests.{lt-leb}
+use Rattle.std.specs.Prelude.{Result}
+use Rattle.ploamu.specs.declared.Unheard.{Unheard}
 use Rattle.ploam.specs.Layout.{message_octets}
 use Rattle.ploamu.specs.Upstream.{upstream_address, heard}
 use Rattle.ploamu.specs.Writing.{MessageLeft, written, Leaves}
-use Rattle.ploamu.specs.declared.Heard.{Heard}
 use Rattle.ploamu.specs.declared.UpstreamMessage.{UpstreamMessage}
 use Rattle.answers.specs.declared.Answer.TheVariants.{NotWritten}
 use Rattle.answers.specs.Answers.{answer_number}
 
-pub heard_determined : (m : List ℕ) (a b : Heard) → a ≡ heard m → b ≡ heard m → a ≡ b
+pub heard_determined : (m : List ℕ) (a b : Result UpstreamMessage Unheard) → a ≡ heard m → b ≡ heard m → a ≡ b
 heard_determined m a b p q = p ∙ sym q
 
 -- the answer and the whole target

@@ -1,14 +1,14 @@
 -- What stands in the target after each way out of the writer.
 -- Assumes nothing.
 use mathlib.Core.Path.{◌≡◌, ◌∙◌, refl, sym, ap, ap₂, subst}
-use mathlib.Core.Bool.{Bool, true, false, cond, ◌&&◌}
-use mathlib.Core.List.{List, [], ◌∷◌, ◌++◌}
-use Prim.Native.Nat.{ℕ, ◌+◌, ◌<◌, ◌≤◌}
+use mathlib.Core.Bool.{Bool, true, cond}
+use mathlib.Core.List.{List, ◌++◌}
+use Prim.Native.Nat.{ℕ, ◌+◌, ◌≤◌}
 use native.Mathlib.Omega.{arith}
 use lib.Dec.{leb}
-use lib.ListN.{length, take, drop}
+use lib.ListN.{length, drop}
 use lib.Seq.{paste, take_all, take_at, drop-append-add, drop-drop}
-use borrow.Author.Tests.{le-leb, lt-leb}
+use borrow.Author.Tests.{le-leb}
 use Rattle.ids.specs.declared.OnuId.{OnuId}
 use Rattle.aes.specs.Words.{Octets}
 use Rattle.cmac.specs.declared.Prepared.{Prepared}
@@ -18,15 +18,7 @@ use Rattle.integrity.specs.declared.Direction.TheVariants.{Upstream}
 use Rattle.ploamu.specs.Upstream.{upstream_address, upstream_type, upstream_octets_lem, fitting}
 use Rattle.ploamu.specs.Writing.{MessageLeft, laid, laid_by, written_by, Leaves}
 use Rattle.ploamu.specs.declared.UpstreamMessage.{UpstreamMessage}
-use Rattle.answers.specs.declared.Answer.TheVariants.{Done, NotWritten}
-
-pub laid-wide : (mic octets target : List ℕ) (fits : Bool) → fits ≡ false
-    → ◌≡◌ {A = MessageLeft} (record { answer = NotWritten; target = target }) (laid mic fits octets target)
-laid-wide mic octets target fits e = simp e
-
-pub laid_short : (mic octets target : List ℕ) (fits : Bool) → fits ≡ true → length target < message_octets
-    → ◌≡◌ {A = MessageLeft} (record { answer = NotWritten; target = target }) (laid mic fits octets target)
-laid_short mic octets target fits e h = simp (e, lt-leb message_octets (length target) h)
+use Rattle.answers.specs.declared.Answer.TheVariants.{Done}
 
 -- one copy after the other
 pasted : (mic octets target : List ℕ) → length octets ≡ covered_octets → length mic ≡ 8

@@ -10,6 +10,8 @@ use lib.Dec.{ltb}
 use lib.ListN.{length, take, drop, length-append}
 use lib.Seq.{take_at}
 use borrow.Author.Tests.{le-leb, le-ltb, ltb-false}
+use Rattle.std.specs.Prelude.{Ok, Err}
+use Rattle.ploamu.specs.declared.Unheard.TheVariants.{Short}
 use Rattle.ids.specs.declared.OnuId.{OnuId}
 use Rattle.aes.specs.Words.{words_of, Octets}
 use Rattle.cmac.specs.Tags.{prepared_by, mac64_by}
@@ -25,11 +27,9 @@ use Rattle.integrity.proofs.Signed.{mic_length, signed_right}
 use Rattle.ploamu.specs.Upstream.{longest_delay, capped, upstream_address, upstream_type, upstream_seq_no, upstream_content, upstream_octets_lem, fitting, registration_id_lem, heard_as, heard, as_sent, Numbers}
 use Rattle.ploamu.specs.Writing.{MessageLeft, laid, written, written_by}
 use Rattle.ploam.specs.declared.Completion.{Completion}
-use Rattle.ploam.specs.declared.Completion.TheVariants.{Ok, NoMessage, UnknownMessageType, ParameterError, ProcessingError}
+use Rattle.ploam.specs.declared.Completion.TheVariants.{Ok as OkCode, NoMessage, UnknownMessageType, ParameterError, ProcessingError}
 use Rattle.ploamu.specs.declared.UpstreamMessage.{UpstreamMessage}
 use Rattle.ploamu.specs.declared.UpstreamMessage.TheVariants.{SerialNumberOnu, Registration, Acknowledgement}
-use Rattle.ploamu.specs.declared.Heard.{Heard}
-use Rattle.ploamu.specs.declared.Heard.TheVariants.{Said, Unheard}
 use Rattle.answers.specs.declared.Answer.TheVariants.{Done}
 
 -- what is read of 48 octets m that came from a message
@@ -38,7 +38,7 @@ pub record Again (installed : List ℕ) (message : UpstreamMessage) (id m : List
   pub type : type_of m ≡ upstream_type message
   pub seq_no_lem : seq_no_of m ≡ upstream_seq_no message
   pub content : take 36 (drop 4 m) ≡ upstream_content message id
-  pub said : heard m ≡ Said (as_sent message)
+  pub said : heard m ≡ Ok (as_sent message)
   pub right : mic_right_lem (key_for Upstream (address_of m) (type_of m) installed) Upstream m ≡ true
 
 pub content_length : (message : UpstreamMessage) (id : List ℕ) → length id ≡ 36 → length (upstream_content message id) ≡ 36
@@ -71,22 +71,22 @@ capped_small : (delay : ℕ) → capped delay < 2 ^ 32
 capped_small delay = cut (ltb longest_delay delay) delay refl
 
 said-again : (message : UpstreamMessage) (id tail : List ℕ) → Numbers message
-    → heard_as (upstream_type message) (upstream_octets_lem message id ++ tail) ≡ Said (as_sent message)
+    → heard_as (upstream_type message) (upstream_octets_lem message id ++ tail) ≡ Ok (as_sent message)
 unfolding heard_as upstream_octets_lem
 said-again (SerialNumberOnu serial delay) id tail n =
-    ap₂ (λ (s : SerialNumber) (d : ℕ). Said (SerialNumberOnu s d))
+    ap₂ (λ (s : SerialNumber) (d : ℕ). Ok (SerialNumberOnu s d))
     (ap₂ (λ (v w : ℕ). record { vendor = v; vssn = w }) (number serial.vendor n.0) (number serial.vssn n.1))
     (number (capped delay) (capped_small delay))
-said-again (Registration onu seq) id tail n = ap (λ (o : OnuId). Said (Registration o seq)) (sent_onu onu n)
-said-again (Acknowledgement onu seq Ok) id tail n = ap (λ (o : OnuId). Said (Acknowledgement o seq Ok)) (sent_onu onu n)
+said-again (Registration onu seq) id tail n = ap (λ (o : OnuId). Ok (Registration o seq)) (sent_onu onu n)
+said-again (Acknowledgement onu seq OkCode) id tail n = ap (λ (o : OnuId). Ok (Acknowledgement o seq OkCode)) (sent_onu onu n)
 said-again (Acknowledgement onu seq NoMessage) id tail n =
-    ap (λ (o : OnuId). Said (Acknowledgement o seq NoMessage)) (sent_onu onu n)
+    ap (λ (o : OnuId). Ok (Acknowledgement o seq NoMessage)) (sent_onu onu n)
 said-again (Acknowledgement onu seq UnknownMessageType) id tail n =
-    ap (λ (o : OnuId). Said (Acknowledgement o seq UnknownMessageType)) (sent_onu onu n)
+    ap (λ (o : OnuId). Ok (Acknowledgement o seq UnknownMessageType)) (sent_onu onu n)
 said-again (Acknowledgement onu seq ParameterError) id tail n =
-    ap (λ (o : OnuId). Said (Acknowledgement o seq ParameterError)) (sent_onu onu n)
+    ap (λ (o : OnuId). Ok (Acknowledgement o seq ParameterError)) (sent_onu onu n)
 said-again (Acknowledgement onu seq ProcessingError) id tail n =
-    ap (λ (o : OnuId). Said (Acknowledgement o seq ProcessingError)) (sent_onu onu n)
+    ap (λ (o : OnuId). Ok (Acknowledgement o seq ProcessingError)) (sent_onu onu n)
 
 fits-narrow : (message : UpstreamMessage) → Numbers message → fitting message ≡ true
 fits-narrow message n = le-leb (upstream_address message).0 1023 (omega (arith, narrow message n))
@@ -127,7 +127,7 @@ again installed message id rest n li =
       seq_no_lem = refl;
       content = ap (take 36) (append_assoc content mic rest) ∙ take_at content (mic ++ rest) 36 (content_length message id li);
       said =
-          ap (λ (b : Bool). cond b Unheard (heard_as (upstream_type message) m)) (le-ltb (length m) message_octets h)
+          ap (λ (b : Bool). cond b (Err Short) (heard_as (upstream_type message) m)) (le-ltb (length m) message_octets h)
           ∙ ap (heard_as (upstream_type message)) (append_assoc octets mic rest)
           ∙ said-again message id (mic ++ rest) n;
       right = signed_right key Upstream octets rest lo;

@@ -1,5 +1,8 @@
 -- The upstream messages of clause 11.3.4 that document 01 sends: their octets, and reading them again.
 -- Assumes nothing.
+use Rattle.std.specs.Prelude.{Result, Ok, Err}
+use Rattle.ploamu.specs.declared.Unheard.{Unheard}
+use Rattle.ploamu.specs.declared.Unheard.TheVariants.{Other, Short}
 use Rattle.std.specs.Prelude.{ℕ, ◌-◌, ◌<◌, ◌^◌, Bool, true, cond, List, [], ◌∷◌, ◌++◌, length, take, drop, replicate, eqb, leb, ltb}
 use Rattle.ids.specs.Ids.{broadcast_onu}
 use Rattle.ids.specs.declared.OnuId.{OnuId}
@@ -8,10 +11,8 @@ use Rattle.ploam.specs.Layout.{message_octets, addresses, octet, number32, addre
 use Rattle.ploam.specs.Layout.{serial_number_onu, registration, acknowledgement}
 use Rattle.ploam.specs.Reading.{serial_from}
 use Rattle.ploam.specs.declared.SerialNumber.{SerialNumber}
-use Rattle.ploam.specs.declared.Completion.TheVariants.{Ok, NoMessage, UnknownMessageType, ParameterError, ProcessingError}
+use Rattle.ploam.specs.declared.Completion.TheVariants.{Ok as OkCode, NoMessage, UnknownMessageType, ParameterError, ProcessingError}
 use Rattle.ploam.specs.Completions.{completion_code}
-use Rattle.ploamu.specs.declared.Heard.{Heard}
-use Rattle.ploamu.specs.declared.Heard.TheVariants.{Said, Other, Unheard}
 use Rattle.ploamu.specs.declared.UpstreamMessage.{UpstreamMessage}
 use Rattle.ploamu.specs.declared.UpstreamMessage.TheVariants.{SerialNumberOnu, Registration, Acknowledgement}
 
@@ -62,23 +63,23 @@ registration_id_lem m = take 36 (drop 4 m)
 abbrev pub registration_id_of : List ℕ → List ℕ
 registration_id_of m = cond (ltb (length m) message_octets) [] (registration_id_lem m)
 
-abbrev pub acknowledged : OnuId → ℕ → ℕ → Heard
+abbrev pub acknowledged : OnuId → ℕ → ℕ → Result UpstreamMessage Unheard
 acknowledged onu seq code =
-    cond (eqb code 0) (Said (Acknowledgement onu seq Ok))
-    (cond (eqb code 1) (Said (Acknowledgement onu seq NoMessage))
-    (cond (eqb code 3) (Said (Acknowledgement onu seq UnknownMessageType))
-    (cond (eqb code 4) (Said (Acknowledgement onu seq ParameterError))
-    (cond (eqb code 5) (Said (Acknowledgement onu seq ProcessingError)) Other))))
+    cond (eqb code 0) (Ok (Acknowledgement onu seq OkCode))
+    (cond (eqb code 1) (Ok (Acknowledgement onu seq NoMessage))
+    (cond (eqb code 3) (Ok (Acknowledgement onu seq UnknownMessageType))
+    (cond (eqb code 4) (Ok (Acknowledgement onu seq ParameterError))
+    (cond (eqb code 5) (Ok (Acknowledgement onu seq ProcessingError)) (Err Other)))))
 
-unfoldable pub heard_as : ℕ → List ℕ → Heard
+unfoldable pub heard_as : ℕ → List ℕ → Result UpstreamMessage Unheard
 heard_as type m =
-    cond (eqb type serial_number_onu) (Said (SerialNumberOnu (serial_from m 5) (number32 m 13)))
-    (cond (eqb type registration) (Said (Registration (address_of m) (seq_no_of m)))
-    (cond (eqb type acknowledgement) (acknowledged (address_of m) (seq_no_of m) (octet m 5)) Other))
+    cond (eqb type serial_number_onu) (Ok (SerialNumberOnu (serial_from m 5) (number32 m 13)))
+    (cond (eqb type registration) (Ok (Registration (address_of m) (seq_no_of m)))
+    (cond (eqb type acknowledgement) (acknowledged (address_of m) (seq_no_of m) (octet m 5)) (Err Other)))
 
 -- a slice under 48 octets holds no message
-unfoldable pub heard : List ℕ → Heard
-heard m = cond (ltb (length m) message_octets) Unheard (heard_as (type_of m) m)
+unfoldable pub heard : List ℕ → Result UpstreamMessage Unheard
+heard m = cond (ltb (length m) message_octets) (Err Short) (heard_as (type_of m) m)
 
 -- what was sent, as it is read: the delay counts as the longest where it is longer
 abbrev pub as_sent : UpstreamMessage → UpstreamMessage

@@ -17,10 +17,9 @@ pub enum UpstreamMessage {
     Acknowledgement(OnuId, u8, Completion),
 }
 
-// What was read of an upstream message; a type or a completion code that is none of these is Other.
+// Why no upstream message was read: its type or its completion code is none of these, or the slice is shorter than a message.
 #[derive(Clone, Copy)]
-pub enum Heard {
-    Said(UpstreamMessage),
+pub enum Unheard {
     Other,
-    Unheard,
+    Short,
 }

@@ -3,49 +3,49 @@ ghost use Rattle.std.specs.Prelude.{◌≡◌, ◌≤◌, length};
 ghost use Rattle.ploam.specs.Layout.{message_octets, type_of};
 ghost use Rattle.ploamu.specs.Upstream.{acknowledged, heard_as, heard, registration_id_of};
 
-use super::{Heard, UpstreamMessage};
+use super::{Unheard, UpstreamMessage};
 use ids::OnuId;
+use octets::Number;
 use ploam::reading::{address, serial_number};
 use ploam::{ACKNOWLEDGEMENT, Completion, MESSAGE_OCTETS, REGISTRATION, SERIAL_NUMBER_ONU};
 
-fn acknowledged(onu: OnuId, seq: u8, code: u8) -> Heard
+fn acknowledged(onu: OnuId, seq: u8, code: u8) -> Result<UpstreamMessage, Unheard>
     ensures { result ≡ acknowledged onu seq code }
 {
-    match code {
-        0 => Heard::Said(UpstreamMessage::Acknowledgement(onu, seq, Completion::Ok)),
-        1 => Heard::Said(UpstreamMessage::Acknowledgement(onu, seq, Completion::NoMessage)),
-        3 => Heard::Said(UpstreamMessage::Acknowledgement(
-            onu,
-            seq,
-            Completion::UnknownMessageType,
-        )),
-        4 => Heard::Said(UpstreamMessage::Acknowledgement(onu, seq, Completion::ParameterError)),
-        5 => Heard::Said(UpstreamMessage::Acknowledgement(onu, seq, Completion::ProcessingError)),
-        _ => Heard::Other,
-    }
+    let completion = match code {
+        0 => Completion::Ok,
+        1 => Completion::NoMessage,
+        3 => Completion::UnknownMessageType,
+        4 => Completion::ParameterError,
+        5 => Completion::ProcessingError,
+        _ => return Err(Unheard::Other),
+    };
+    Ok(UpstreamMessage::Acknowledgement(onu, seq, completion))
 }
 
-fn content(m: &[u8]) -> Heard
+#[tactic(auto, unfolding(crate::specs::Upstream::heard_as))]
+fn content(m: &[u8]) -> Result<UpstreamMessage, Unheard>
     requires { message_octets ≤ length m.now }
     ensures { result ≡ heard_as (type_of m.now) m.now }
 {
     let kind = m[2];
     match kind {
-        SERIAL_NUMBER_ONU => Heard::Said(UpstreamMessage::SerialNumberOnu(
+        SERIAL_NUMBER_ONU => Ok(UpstreamMessage::SerialNumberOnu(
             serial_number([m[4], m[5], m[6], m[7], m[8], m[9], m[10], m[11]]),
-            octets::join32(m[12], m[13], m[14], m[15]),
+            u32::read(&m[12..]),
         )),
-        REGISTRATION => Heard::Said(UpstreamMessage::Registration(address(m[0], m[1]), m[3])),
+        REGISTRATION => Ok(UpstreamMessage::Registration(address(m[0], m[1]), m[3])),
         ACKNOWLEDGEMENT => acknowledged(address(m[0], m[1]), m[3], m[4]),
-        _ => Heard::Other,
+        _ => Err(Unheard::Other),
     }
 }
 
-pub fn read(m: &[u8]) -> Heard
+#[tactic(auto, unfolding(crate::specs::Upstream::heard))]
+pub fn read(m: &[u8]) -> Result<UpstreamMessage, Unheard>
     ensures { result ≡ heard m.now }
 {
     if m.len() < MESSAGE_OCTETS {
-        return Heard::Unheard;
+        return Err(Unheard::Short);
     }
     content(m)
 }

@@ -1,10 +1,9 @@
 // Writing an upstream message into a lent slice.
-ghost use Rattle.std.specs.Prelude.{Bool, ◌≡◌, ◌∷◌, ◌++◌, ◌+◌, ◌≤◌, length, replicate};
+ghost use Rattle.std.specs.Prelude.{◌≡◌, ◌∷◌, ◌++◌, ◌+◌, ◌≤◌, length, replicate};
 ghost use Rattle.std.proofs.Math.Seq.{paste};
-ghost use Rattle.aes.specs.Words.{Octets};
 ghost use Rattle.octets.specs.Octets.{octets};
 ghost use Rattle.ids.specs.Ids.{broadcast_onu};
-ghost use Rattle.ploam.specs.Layout.{covered_octets, type_of, serial_number_onu, registration, acknowledgement};
+ghost use Rattle.ploam.specs.Layout.{serial_number_onu, registration, acknowledgement};
 ghost use Rattle.ploamu.specs.Upstream.{capped};
 ghost use Rattle.ploamu.specs.Upstream.{upstream_address, upstream_octets_lem};
 ghost use Rattle.ploamu.specs.Writing.{laid_by, written_by, Leaves};
@@ -14,6 +13,7 @@ use answers::Answer;
 use cmac::Prepared;
 use ids::OnuId;
 use integrity::{COVERED_OCTETS, Direction};
+use octets::Number;
 use ploam::reading::ADDRESSES;
 use ploam::{ACKNOWLEDGEMENT, MESSAGE_OCTETS, REGISTRATION, SERIAL_NUMBER_ONU, SerialNumber};
 
@@ -26,129 +26,47 @@ const WIDEST_ONU: u16 = ADDRESSES - 1;
 fn capped(delay: u32) -> u32
     ensures { result ≡ capped delay }
 {
-    if LONGEST_DELAY < delay {
-        LONGEST_DELAY
-    } else {
-        delay
-    }
+    delay.min(LONGEST_DELAY)
+}
+
+// What every message begins with, and no content yet.
+fn headed(onu: OnuId, kind: u8, seq: u8) -> [u8; 40]
+    ensures { result ≡ octets 2 onu.0 ++ kind ∷ seq ∷ replicate 36 0 }
+{
+    let mut m = [0u8; 40];
+    onu.0.put(&mut m);
+    m[2] = kind;
+    m[3] = seq;
+    m
 }
 
 fn serial_octets(serial: SerialNumber, delay: u32) -> [u8; 40]
     ensures { result ≡ octets 2 broadcast_onu.0 ++ serial_number_onu ∷ 0 ∷ (octets 4 serial.vendor ++ octets 4 serial.vssn ++ octets 4 delay ++ replicate 24 0) }
 {
-    let onu = octets::split16(WIDEST_ONU);
-    let vendor = octets::split32(serial.vendor);
-    let vssn = octets::split32(serial.vssn);
-    let late = octets::split32(delay);
-    [
-        onu[0],
-        onu[1],
-        SERIAL_NUMBER_ONU,
-        0,
-        vendor[0],
-        vendor[1],
-        vendor[2],
-        vendor[3],
-        vssn[0],
-        vssn[1],
-        vssn[2],
-        vssn[3],
-        late[0],
-        late[1],
-        late[2],
-        late[3],
-        0,
-        0,
-        0,
-        0,
-        0,
-        0,
-        0,
-        0,
-        0,
-        0,
-        0,
-        0,
-        0,
-        0,
-        0,
-        0,
-        0,
-        0,
-        0,
-        0,
-        0,
-        0,
-        0,
-        0,
-    ]
+    let mut m = headed(OnuId::broadcast(), SERIAL_NUMBER_ONU, 0);
+    serial.vendor.put(&mut m[4..]);
+    serial.vssn.put(&mut m[8..]);
+    delay.put(&mut m[12..]);
+    m
 }
 
 fn registration_octets(onu: OnuId, seq: u8, id: [u8; 36]) -> [u8; 40]
     ensures { result ≡ octets 2 onu.0 ++ registration ∷ seq ∷ id }
 {
-    let mut b = [0u8; 40];
-    let address = octets::split16(onu.0);
-    b[0] = address[0];
-    b[1] = address[1];
-    b[2] = REGISTRATION;
-    b[3] = seq;
-    let mut i: usize = 0;
-    while i < 36 {
-        b[4 + i] = id[i];
-        i += 1;
-    }
-    b
+    let mut m = headed(onu, REGISTRATION, seq);
+    m[4..].copy_from_slice(&id);
+    m
 }
 
 fn acknowledgement_octets(onu: OnuId, seq: u8, code: u8) -> [u8; 40]
     ensures { result ≡ octets 2 onu.0 ++ acknowledgement ∷ seq ∷ code ∷ replicate 35 0 }
 {
-    let address = octets::split16(onu.0);
-    [
-        address[0],
-        address[1],
-        ACKNOWLEDGEMENT,
-        seq,
-        code,
-        0,
-        0,
-        0,
-        0,
-        0,
-        0,
-        0,
-        0,
-        0,
-        0,
-        0,
-        0,
-        0,
-        0,
-        0,
-        0,
-        0,
-        0,
-        0,
-        0,
-        0,
-        0,
-        0,
-        0,
-        0,
-        0,
-        0,
-        0,
-        0,
-        0,
-        0,
-        0,
-        0,
-        0,
-        0,
-    ]
+    let mut m = headed(onu, ACKNOWLEDGEMENT, seq);
+    m[4] = code;
+    m
 }
 
+#[tactic(auto, unfolding(crate::specs::Upstream::upstream_octets_lem))]
 fn upstream_octets(message: UpstreamMessage, id: [u8; 36]) -> [u8; 40]
     ensures { result ≡ upstream_octets_lem message id }
 {
@@ -173,41 +91,25 @@ fn sender(message: UpstreamMessage) -> OnuId
     }
 }
 
-// The type, as it was laid out. Where an octet of a slice is read, it is known that the slice holds octets.
-fn kind(b: &[u8]) -> u8
-    requires { covered_octets ≤ length b.now }
-    ensures { (result ≡ type_of b.now) × (Octets b.now) }
-{
-    b[2]
-}
-
 // Lays s over target from a place on.
 fn lay(target: &mut [u8], at: usize, s: &[u8])
     requires { at + length s.now ≤ length target.old }
     ensures { target.new ≡ paste target.old at s.now (length s.now) }
 {
-    let mut i: usize = 0;
-    while i < s.len() {
-        target[at + i] = s[i];
-        i += 1;
-    }
+    target[at..at + s.len()].copy_from_slice(s);
 }
 
 // Lays octets 1 to 40 and their integrity field over the front of target.
 fn put(key: Prepared, direction: Direction, fits: bool, b: &[u8; 40], target: &mut [u8]) -> Answer
     ensures { record { answer = result; target = target.new } ≡ laid_by key direction fits b.now target.old }
 {
-    if fits {
-        if target.len() < MESSAGE_OCTETS {
-            return Answer::NotWritten;
-        }
-        let mic = integrity::sign(key, direction, b);
-        lay(target, 0, b);
-        lay(target, COVERED_OCTETS, &mic);
-        Answer::Done
-    } else {
-        Answer::NotWritten
+    if !fits || target.len() < MESSAGE_OCTETS {
+        return Answer::NotWritten;
     }
+    let mic = integrity::sign(key, direction, b);
+    lay(target, 0, b);
+    lay(target, COVERED_OCTETS, &mic);
+    Answer::Done
 }
 
 // Writes the message, signed with its own key: the default key (`usual`, prepared) or the installed one. Where none is
@@ -224,7 +126,7 @@ pub fn write(
     let b = upstream_octets(message, id);
     let onu = sender(message);
     let fits = onu.0 <= WIDEST_ONU;
-    if integrity::by_default(Direction::Upstream, onu, kind(&b)) {
+    if integrity::by_default(Direction::Upstream, onu, b[2]) {
         put(usual, Direction::Upstream, fits, &b, target)
     } else {
         put(installed, Direction::Upstream, fits, &b, target)

@@ -1,12 +1,10 @@
 -- The ports, and what happens to them: a partial is dropped, all are, a fragment is appended, an SDU is delivered. No other
 -- definition writes a length or a wait mark of a port that is held.
 -- Assumes nothing.
-use Rattle.std.specs.Prelude.{ℕ, ◌+◌, List, Bool, true, false, cond, set, replicate, ltb}
+use Rattle.std.specs.Prelude.{None, Option, Some, ℕ, ◌+◌, List, Bool, true, false, cond, set, replicate, ltb}
 use Rattle.ids.specs.declared.PortId.{PortId}
 use Rattle.ids.specs.Ids.{same_port}
 use Rattle.ports.specs.declared.Ports.{Ports}
-use Rattle.ids.specs.declared.Place.{Place}
-use Rattle.ids.specs.declared.Place.TheVariants.{At, Nowhere}
 use Rattle.ports.specs.Limits.{slots, added_ports}
 use Rattle.ids.specs.Places.{place_from}
 
@@ -47,16 +45,16 @@ abbrev pub clear_management_lem : Ports → Ports
 clear_management_lem p = ports_of p.ids p.lengths (set p.waiting 0 false)
 
 -- the added port `id` has the slot after its place
-abbrev pub port_place : Ports → PortId → Place
+abbrev pub port_place : Ports → PortId → Option ℕ
 port_place p id = place_from (same_port id) 0 p.ids
 
 -- the lowest empty slot
-abbrev pub vacancy : Ports → Place
+abbrev pub vacancy : Ports → Option ℕ
 vacancy p = port_place p no_port
 
-abbrev pub put_port_lem : Ports → PortId → Place → Ports
-put_port_lem p id (At i) = drop_one_lem (ports_of (set p.ids i id) p.lengths p.waiting) (i + 1) true
-put_port_lem p id Nowhere = p
+abbrev pub put_port_lem : Ports → PortId → Option ℕ → Ports
+put_port_lem p id (Some i) = drop_one_lem (ports_of (set p.ids i id) p.lengths p.waiting) (i + 1) true
+put_port_lem p id None = p
 
 -- "Adding takes the lowest empty slot"; "An added port waits"
 abbrev pub add_port_lem : Ports → PortId → Ports

@@ -8,7 +8,7 @@ ghost use Rattle.ids.specs.Places.{place_from, Below};
 ghost use Rattle.ports.specs.Limits.{added_ports};
 ghost use Rattle.ports.specs.Ports.{no_port, ports_of, no_ports, drop_one_lem, drop_all_lem, appended, delivered, if_slot, clear_management_lem, port_place, vacancy, put_port_lem, add_port_lem, remove_port_lem};
 
-use ids::{Place, PortId};
+use ids::PortId;
 
 pub const ADDED_PORTS: usize = 16;
 
@@ -57,24 +57,10 @@ pub fn deliver_in(lengths: &mut [u16; SLOTS], slot: usize)
     }
 }
 
-fn find_port(ids: [PortId; ADDED_PORTS], id: PortId) -> Place
-    ensures { (result ≡ place_from (same_port id) 0 ids) × (Below result added_ports) }
-{
-    let mut i: usize = 0;
-    while i < ADDED_PORTS {
-        let other = ids[i];
-        if id.is(other) {
-            return Place::At(i);
-        }
-        i += 1;
-    }
-    Place::Nowhere
-}
-
 // What stands in the i-th slot of added ports changes: it has no unfinished SDU, and waits.
 fn put_port(p: Ports, i: usize, id: PortId) -> Ports
     requires { i < added_ports }
-    ensures { result ≡ put_port_lem p id (Place.At i) }
+    ensures { result ≡ put_port_lem p id (Some i) }
 {
     let mut next = p;
     next.ids[i] = id;
@@ -85,9 +71,8 @@ impl Ports {
     pub fn none() -> Ports
         ensures { result ≡ no_ports }
     {
-        let none = PortId(0);
         Ports {
-            ids: [none; ADDED_PORTS],
+            ids: [PortId(0); ADDED_PORTS],
             lengths: [0u16; SLOTS],
             waiting: [true; SLOTS],
         }
@@ -98,9 +83,9 @@ impl Ports {
         ensures { result ≡ ports_of ids lengths waiting }
     {
         Ports {
-            ids: ids,
-            lengths: lengths,
-            waiting: waiting,
+            ids,
+            lengths,
+            waiting,
         }
     }
 
@@ -149,41 +134,34 @@ impl Ports {
         self
     }
 
-    pub fn place(self, id: PortId) -> Place
+    pub fn place(self, id: PortId) -> Option<usize>
         ensures { result ≡ port_place self id }
     {
-        let ids = self.ids;
-        find_port(ids, id)
+        ids::place_of(&self.ids, id)
     }
 
     // The lowest empty slot.
-    pub fn vacancy(self) -> Place
+    pub fn vacancy(self) -> Option<usize>
         ensures { result ≡ vacancy self }
     {
-        let ids = self.ids;
-        let none = PortId(0);
-        find_port(ids, none)
+        ids::place_of(&self.ids, PortId(0))
     }
 
     pub fn add(self, id: PortId) -> Ports
         ensures { result ≡ add_port_lem self id }
     {
-        let ids = self.ids;
-        let none = PortId(0);
-        match find_port(ids, none) {
-            Place::At(i) => put_port(self, i, id),
-            Place::Nowhere => self,
+        match ids::place_of(&self.ids, PortId(0)) {
+            Some(i) => put_port(self, i, id),
+            None => self,
         }
     }
 
     pub fn remove(self, id: PortId) -> Ports
         ensures { result ≡ remove_port_lem self id }
     {
-        let ids = self.ids;
-        let none = PortId(0);
-        match find_port(ids, id) {
-            Place::At(i) => put_port(self, i, none),
-            Place::Nowhere => self,
+        match ids::place_of(&self.ids, id) {
+            Some(i) => put_port(self, i, PortId(0)),
+            None => self,
         }
     }
 }

@@ -1,17 +1,13 @@
 -- The replies, one at a time.
 -- Assumes nothing.
-use Prim.Native.Nat.{ℕ, zero, suc, min, ◌+◌, ◌-◌, ◌*◌, ◌/◌, ◌^◌, ◌≤◌, ◌<◌}
-use mathlib.Core.Path.{◌≡◌, ◌∙◌, refl, sym, ap}
-use mathlib.Core.Bool.{Bool, true, false}
-use mathlib.Core.List.{List, [], ◌∷◌, ◌++◌}
+use Prim.Native.Nat.{ℕ, suc, min, ◌+◌, ◌-◌, ◌*◌, ◌/◌, ◌^◌, ◌≤◌, ◌<◌}
+use mathlib.Core.Path.{◌≡◌, ◌∙◌, refl, ap}
+use mathlib.Core.List.{List}
 use native.Mathlib.Omega.{arith}
-use lib.ListN.{length, take, drop}
-use lib.Seq.{drop-drop}
-use Rattle.aes.specs.Words.{words_of, Octets}
+use Rattle.aes.specs.Words.{words_of}
 use Rattle.cmac.specs.Tags.{prepared_by}
 use Rattle.cmac.specs.declared.Prepared.{Prepared}
-use Rattle.integrity.specs.Integrity.{default_key_lem, installed_key_lem}
-use Rattle.integrity.proofs.Keys.{default_octets}
+use Rattle.integrity.specs.Integrity.{default_key_lem}
 use Rattle.ploamu.specs.declared.UpstreamMessage.{UpstreamMessage}
 use Rattle.ploamu.specs.Upstream.{upstream_octets_lem}
 use Rattle.ploamu.specs.Writing.{MessageLeft, Leaves, written, written_by}
@@ -23,7 +19,7 @@ use Rattle.link.specs.declared.Key.{Key}
 use Rattle.messages.specs.Receiving.{Installed}
 use Rattle.replies.specs.Replying.{after_in, after_reply_lem}
 use Rattle.messages.proofs.Receiving.{key_is}
-use Rattle.replies.specs.Replies.{key_of, in_place, wrote, replies_from, Keyed, RepliesLeft}
+use Rattle.replies.specs.Replies.{key_of, in_place, replies_from, Keyed}
 
 -- what the prepared keys write is what the station's key would
 pub written_true

@@ -1,6 +1,7 @@
 -- The replies of a frame, written one after another into a lent buffer.
 -- Assumes nothing.
-use Rattle.std.specs.Prelude.{ℕ, zero, suc, min, ◌+◌, ◌*◌, ◌/◌, ◌≡◌, List, ◌++◌, length, take, drop}
+use Rattle.std.specs.Prelude.{None, Option, Some, ℕ, zero, suc, min, ◌+◌, ◌*◌, ◌/◌, ◌≡◌, List, ◌++◌, length, take, drop}
+use Rattle.ploamu.specs.declared.UpstreamMessage.{UpstreamMessage}
 use Rattle.aes.specs.Words.{words_of, Octets}
 use Rattle.cmac.specs.Tags.{prepared_by}
 use Rattle.cmac.specs.declared.Prepared.{Prepared}
@@ -10,17 +11,15 @@ use Rattle.ploamu.specs.Writing.{written}
 use Rattle.station.specs.declared.Station.{Station}
 use Rattle.link.specs.declared.Key.{Key}
 use Rattle.replies.specs.Replying.{reply_of_lem, after_reply_lem}
-use Rattle.replies.specs.declared.replying.Reply.{Reply}
-use Rattle.replies.specs.declared.replying.Reply.TheVariants.{Silent, Says}
 
 -- the key that signs: the installed one, or the default if none
 abbrev pub key_of : Key → List ℕ
 key_of k = installed_key_lem k.held k.octets
 
 -- the octets of one reply
-abbrev pub said : Station → Reply → List ℕ → List ℕ
-said s Silent target = target
-said s (Says message) target = (written (key_of s.link.key) message s.registration target).target
+abbrev pub said : Station → Option UpstreamMessage → List ℕ → List ℕ
+said s None target = target
+said s (Some message) target = (written (key_of s.link.key) message s.registration target).target
 
 unfoldable pub wrote : Station → ℕ → List ℕ → List ℕ
 wrote s delay target = said s (reply_of_lem s delay) target

@@ -8,18 +8,10 @@ use ploam::Completion;
 use ploamu::UpstreamMessage;
 use station::{Activation, Station};
 
-// O1, O6 and O7 send nothing.
-#[derive(Clone, Copy)]
-pub enum Reply {
-    Silent,
-    Says(UpstreamMessage),
-}
-
 fn answering(onu: OnuId, owed: Owed) -> UpstreamMessage
     ensures { result ≡ answering onu owed }
 {
-    let response = owed.response;
-    match response {
+    match owed.response {
         Response::Registration => UpstreamMessage::Registration(onu, owed.seq_no),
         Response::Acknowledgement(code) => UpstreamMessage::Acknowledgement(onu, owed.seq_no, code),
     }
@@ -29,45 +21,35 @@ fn in_operation(onu: OnuId, owed: Queue) -> UpstreamMessage
     ensures { result ≡ in_operation_lem onu owed }
 {
     if owed.count == 0 {
-        return UpstreamMessage::Acknowledgement(onu, 0, Completion::NoMessage);
+        UpstreamMessage::Acknowledgement(onu, 0, Completion::NoMessage)
+    } else {
+        answering(onu, owed.oldest())
     }
-    answering(onu, owed.oldest())
 }
 
-pub fn reply_of(s: Station, delay: u32) -> Reply
+// O1, O6 and O7 send nothing.
+#[tactic(auto, unfolding(crate::specs::Replying::reply_of_lem))]
+pub fn reply_of(s: Station, delay: u32) -> Option<UpstreamMessage>
     ensures { Replies s delay result }
 {
-    let a = s.activation;
-    let link = s.link;
-    let onu = link.onu;
-    let owed = link.owed;
-    let octets = s.serial;
-    match a {
-        Activation::Initial => Reply::Silent,
-        Activation::SerialNumber => Reply::Says(UpstreamMessage::SerialNumberOnu(
-            ploam::reading::serial_number(octets),
+    match s.activation {
+        Activation::SerialNumber => Some(UpstreamMessage::SerialNumberOnu(
+            ploam::reading::serial_number(s.serial),
             delay,
         )),
-        Activation::Ranging(_) => Reply::Says(UpstreamMessage::Registration(onu, 0)),
-        Activation::Operation => Reply::Says(in_operation(onu, owed)),
-        Activation::Intermittent(_) => Reply::Silent,
-        Activation::EmergencyStop => Reply::Silent,
+        Activation::Ranging(_) => Some(UpstreamMessage::Registration(s.link.onu, 0)),
+        Activation::Operation => Some(in_operation(s.link.onu, s.link.owed)),
+        Activation::Initial | Activation::Intermittent(_) | Activation::EmergencyStop => { None }
     }
 }
 
 // The answer that was sent is no longer owed.
+#[tactic(auto, unfolding(crate::specs::Replying::after_reply_lem))]
 pub fn after_reply(s: Station) -> Station
     ensures { Leaves s result }
 {
-    let a = s.activation;
-    let link = s.link;
-    let owed = link.owed;
-    match a {
-        Activation::Initial => s,
-        Activation::SerialNumber => s,
-        Activation::Ranging(_) => s,
-        Activation::Operation => s.with_link(link.with_owed(owed.paid())),
-        Activation::Intermittent(_) => s,
-        Activation::EmergencyStop => s,
+    match s.activation {
+        Activation::Operation => s.with_link(s.link.with_owed(s.link.owed.paid())),
+        _ => s,
     }
 }

@@ -2,7 +2,7 @@
 // starts, how many words that takes, whether it has room for one more entry, and whether it is planned.
 #![tactic(auto)]
 
-ghost use Rattle.std.specs.Prelude.{◌≤◌, ◌<◌, ◌≡◌};
+ghost use Rattle.std.specs.Prelude.{◌≤◌, ◌≡◌};
 ghost use Rattle.series.specs.Series.{words_of, judged};
 ghost use Rattle.series.specs.Opens.{closed, opened, goes_on_lem, fits, Modest};
 
@@ -39,21 +39,13 @@ pub struct Open {
     pub words: usize,
 }
 
-fn long(x: u16) -> usize
-    ensures { (result ≡ x) × (result < 65536) }
-{
-    x as usize
-}
-
 // The words of a burst of which the head alone is read.
+#[tactic(auto, unfolding(crate::specs::Series::words_of))]
 fn head_words(h: Allocation) -> usize
     ensures { (result ≡ words_of h 0) × (result ≤ 65549) }
 {
-    let g = long(h.grant);
-    if h.ploamu {
-        return 1 + PLOAMU_WORDS + g + 1;
-    }
-    1 + 0 + g + 1
+    let ploamu = if h.ploamu { PLOAMU_WORDS } else { 0 };
+    1 + ploamu + usize::from(h.grant) + 1
 }
 
 pub fn closed() -> Open
@@ -71,12 +63,13 @@ pub fn opened(h: Allocation) -> Open
 {
     Open {
         entries: 1,
-        start: long(h.start),
+        start: usize::from(h.start),
         words: head_words(h),
     }
 }
 
 // Whether an entry of ours that continues goes the series on: one must be open, and a seventeenth closes it.
+#[tactic(auto, unfolding(crate::specs::Opens::goes_on_lem))]
 pub fn goes_on(s: Open) -> bool
     ensures { result ≡ goes_on_lem s }
 {
@@ -84,28 +77,25 @@ pub fn goes_on(s: Open) -> bool
 }
 
 // What becomes of a burst of so many words at `start`.
+#[tactic(auto, unfolding(crate::specs::Series::judged))]
 pub fn judge(around: Around, start: usize, words: usize) -> Verdict
     ensures { result ≡ judged around start words }
 {
     if WORDS_A_BURST < words {
-        return Verdict::TooLong;
+        Verdict::TooLong
+    } else if start < around.end {
+        Verdict::Overlapping
+    } else if BURSTS_A_FRAME <= around.bursts {
+        Verdict::AfterTheLast
+    } else {
+        Verdict::Planned
     }
-    if start < around.end {
-        return Verdict::Overlapping;
-    }
-    if BURSTS_A_FRAME <= around.bursts {
-        return Verdict::AfterTheLast;
-    }
-    Verdict::Planned
 }
 
 // Whether a series is open and, as it ends, planned.
+#[tactic(auto, unfolding(crate::specs::Opens::fits))]
 pub fn fits(around: Around, s: Open) -> bool
     ensures { result ≡ fits around s }
 {
-    if 0 < s.entries {
-        let verdict = judge(around, s.start, s.words);
-        return verdict.is_planned();
-    }
-    false
+    0 < s.entries && judge(around, s.start, s.words).is_planned()
 }

@@ -42,55 +42,33 @@ impl Activation {
     pub fn holds_identity(self) -> bool
         ensures { result ≡ holds_identity_lem self }
     {
-        match self {
-            Activation::Initial => false,
-            Activation::SerialNumber => false,
-            Activation::Ranging(_) => true,
-            Activation::Operation => true,
-            Activation::Intermittent(_) => true,
-            Activation::EmergencyStop => false,
-        }
+        matches!(
+            self,
+            Activation::Ranging(_) | Activation::Operation | Activation::Intermittent(_)
+        )
     }
 
     // In O1, O6 and O7 a station sends nothing.
     pub fn is_silent(self) -> bool
         ensures { result ≡ silent self }
     {
-        match self {
-            Activation::Initial => true,
-            Activation::SerialNumber => false,
-            Activation::Ranging(_) => false,
-            Activation::Operation => false,
-            Activation::Intermittent(_) => true,
-            Activation::EmergencyStop => true,
-        }
+        matches!(
+            self,
+            Activation::Initial | Activation::Intermittent(_) | Activation::EmergencyStop
+        )
     }
 
     pub fn is_ranging(self) -> bool
         ensures { result ≡ is_ranging_lem self }
     {
-        match self {
-            Activation::Initial => false,
-            Activation::SerialNumber => false,
-            Activation::Ranging(_) => true,
-            Activation::Operation => false,
-            Activation::Intermittent(_) => false,
-            Activation::EmergencyStop => false,
-        }
+        matches!(self, Activation::Ranging(_))
     }
 
     // Only a frame that arrives in O5 has its payload walked.
     pub fn is_operating(self) -> bool
         ensures { result ≡ is_operating_lem self }
     {
-        match self {
-            Activation::Initial => false,
-            Activation::SerialNumber => false,
-            Activation::Ranging(_) => false,
-            Activation::Operation => true,
-            Activation::Intermittent(_) => false,
-            Activation::EmergencyStop => false,
-        }
+        matches!(self, Activation::Operation)
     }
 
     // The number by which the bench run prints the state.
@@ -123,34 +101,21 @@ impl Station {
     pub fn power_on(serial: [u8; 8], registration: [u8; 36]) -> Station
         ensures { result ≡ power_on_lem serial registration }
     {
-        let link = Link::nothing();
-        let ports = Ports::none();
         Station {
             activation: Activation::Initial,
-            serial: serial,
-            registration: registration,
-            link: link,
-            ports: ports,
+            serial,
+            registration,
+            link: Link::nothing(),
+            ports: Ports::none(),
             carried: 0,
         }
     }
 
-    // A field that is an enum is not stored to: the struct is written anew.
-    pub fn with_activation(self, activation: Activation) -> Station
+    pub fn with_activation(mut self, activation: Activation) -> Station
         ensures { result ≡ with_activation_lem self activation }
     {
-        let serial = self.serial;
-        let registration = self.registration;
-        let link = self.link;
-        let ports = self.ports;
-        Station {
-            activation: activation,
-            serial: serial,
-            registration: registration,
-            link: link,
-            ports: ports,
-            carried: self.carried,
-        }
+        self.activation = activation;
+        self
     }
 
     pub fn with_link(mut self, link: Link) -> Station
@@ -175,22 +140,13 @@ impl Station {
     }
 
     // O1, O2-3 or O7 is entered: what the head end has given is forgotten, the added ports stay and wait.
-    pub fn enter(self, activation: Activation) -> Station
+    pub fn enter(mut self, activation: Activation) -> Station
         ensures { result ≡ enter self activation }
     {
-        let serial = self.serial;
-        let registration = self.registration;
-        let forgotten = Link::nothing();
-        let ports = self.ports;
-        let dropped = ports.drop_all();
-        Station {
-            activation: activation,
-            serial: serial,
-            registration: registration,
-            link: forgotten,
-            ports: dropped,
-            carried: self.carried,
-        }
+        self.activation = activation;
+        self.link = Link::nothing();
+        self.ports = self.ports.drop_all();
+        self
     }
 }
 

@@ -11,7 +11,6 @@ use borrow.Author.Tests.{eqb-false}
 use lib.Dec.{eqb}
 use lib.ListN.{length, get_or, drop, length-append, length-drop}
 use Rattle.ids.specs.declared.PortId.{PortId}
-use Rattle.xgem.specs.declared.frame.XgemHeader.{XgemHeader}
 use Rattle.xgem.specs.Layouts.{payload_size_lem}
 use Rattle.xgem.proofs.Frames.{size_short, size_long}
 use Rattle.ports.specs.declared.Ports.{Ports}

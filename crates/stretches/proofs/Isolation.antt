@@ -1,7 +1,7 @@
 -- Payloads that differ only in payload bytes of ports that are not ours have equal stretches, and lose delineation alike.
 -- Assumes nothing.
 use mathlib.Core.Path.{◌≡◌, refl, sym, ap, ap₂, ◌∙◌}
-use mathlib.Core.Bool.{Bool, cond}
+use mathlib.Core.Bool.{cond}
 use mathlib.Core.List.{List, ◌++◌}
 use Prim.Native.Nat.{ℕ, ◌+◌}
 use native.Mathlib.Omega.{arith}
@@ -14,7 +14,7 @@ use Rattle.xgem.specs.Layouts.{xgem_of, payload_size_lem}
 use Rattle.xgem.specs.Reads.{taken, short}
 use Rattle.ports.specs.declared.Ports.{Ports}
 use Rattle.fragments.specs.Fragments.{reassembly_of_lem, ports_after}
-use Rattle.payload.specs.Frames.{Parsed, ahead, next_of, frame_of, parse}
+use Rattle.payload.specs.Frames.{Parsed, ahead, next_of, parse}
 use Rattle.payload.specs.Alike.{Alike, equal, past, beyond}
 use Rattle.payload.proofs.Isolation.{cut_short}
 use Rattle.payload.proofs.Walks.{parse_lost, parse-next}

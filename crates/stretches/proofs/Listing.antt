@@ -1,16 +1,16 @@
 -- What holds at each turn of the search for stretches.
 -- Assumes nothing.
 use mathlib.Core.Path.{◌≡◌, refl, sym, ap, ap₂, ◌∙◌, subst}
-use mathlib.Core.Bool.{Bool, true, false, cond}
+use mathlib.Core.Bool.{Bool, true, false}
 use mathlib.Core.List.{List, [], ◌∷◌, ◌++◌, append_assoc, append-nil}
-use Prim.Native.Nat.{ℕ, zero, suc, ◌+◌, ◌-◌, ◌*◌, ◌/◌, ◌≤◌, ◌<◌, zero-le}
+use Prim.Native.Nat.{ℕ, zero, suc, ◌+◌, ◌-◌, ◌*◌, ◌≤◌, ◌<◌, zero-le}
 use native.Mathlib.Nat.{suc-ne-zero, le_refl}
 use native.Mathlib.Numerals.{add-one, sub-one}
 use native.Mathlib.Omega.{arith}
 use borrow.Author.Tests.{ne_eqb}
-use lib.Dec.{eqb}
 use lib.ListN.{length, get_or, set, take, drop, length-append, length-drop}
 use lib.Seq.{take-nil, drop-nil, sets-eq}
+use Rattle.std.specs.Prelude.{None, Option, Some}
 use Rattle.ids.specs.declared.PortId.{PortId}
 use Rattle.xgem.specs.declared.frame.XgemHeader.{XgemHeader}
 use Rattle.xgem.specs.Layouts.{payload_size_lem}
@@ -20,7 +20,6 @@ use Rattle.fragments.specs.declared.Reassembly.{Reassembly}
 use Rattle.fragments.specs.declared.Reassembly.TheVariants.{Ignored, Dropped, Delivered, Appended}
 use Rattle.fragments.specs.Fragments.{reassembly_of_lem, ports_after}
 use Rattle.fragments.proofs.Decided.{ids_after}
-use Rattle.payload.specs.declared.frames.Next.{Next}
 use Rattle.payload.specs.declared.frames.Next.TheVariants.{Done, Lost, Frame}
 use Rattle.payload.specs.Frames.{next_of}
 use Rattle.payload.specs.Memory.{put}
@@ -30,13 +29,9 @@ use Rattle.payload.proofs.Walks.{frame-inside}
 use Rattle.stretches.specs.declared.Extent.{Extent}
 use Rattle.stretches.specs.declared.Placed.{Placed}
 use Rattle.stretches.specs.declared.StretchPlace.{StretchPlace}
-use Rattle.stretches.specs.declared.headers.Ahead.TheVariants as ahead
-use Rattle.stretches.specs.declared.headers.Ahead.TheVariants.{Bytes}
-use Rattle.stretches.specs.declared.search.Brought.{Brought}
-use Rattle.stretches.specs.declared.search.Brought.TheVariants.{Nothing, Stretch}
 use Rattle.stretches.specs.declared.search.Search.{Search}
-use Rattle.stretches.specs.Stretch.{no_extent, alone, alone_at, extents_of, lost_in, stretch_of, numbers, room_in, Listed, listing, list_of}
-use Rattle.stretches.specs.Search.{brought, Noted, noted, bytes_of}
+use Rattle.stretches.specs.Stretch.{no_extent, alone_at, extents_of, lost_in, stretch_of, numbers, room_in, Listed, listing, list_of}
+use Rattle.stretches.specs.Search.{brought, Noted, noted}
 use Rattle.stretches.proofs.Stretches.{lost_done, lost_lost, lost_next, extents-done, extents-lost, extents-next}
 
 pub length-numbers : (ts : List Extent) → length (numbers ts) ≡ 2 * length ts
@@ -174,13 +169,13 @@ passed_start own f p from i h = record { inside = h; onward = le_refl from; ids 
 never : {A : Type 0} → ◌≡◌ {A = ℕ} 0 1 → A
 never z = absurd (omega arith)
 
-was_nothing : (e : Reassembly) (at n : ℕ) → brought (alone_at e at n) ≡ Nothing → alone_at e at n ≡ []
+was_nothing : (e : Reassembly) (at n : ℕ) → brought (alone_at e at n) ≡ None → alone_at e at n ≡ []
 was_nothing Ignored at n q = refl
 was_nothing (Dropped slot waits) at n q = refl
 was_nothing (Delivered slot have) at n q = never cc
 was_nothing (Appended slot have) at n q = refl
 
-was_stretch : (e : Reassembly) (at n : ℕ) (t : Extent) → brought (alone_at e at n) ≡ Stretch t → alone_at e at n ≡ t ∷ []
+was_stretch : (e : Reassembly) (at n : ℕ) (t : Extent) → brought (alone_at e at n) ≡ Some t → alone_at e at n ≡ t ∷ []
 was_stretch Ignored at n t q = never cc
 was_stretch (Dropped slot waits) at n t q = never cc
 was_stretch (Delivered slot have) at n t q = cc
@@ -193,7 +188,7 @@ module _ (own : PortId) (f : List ℕ) (p₀ : Ports) (from : ℕ) (p : Ports) (
   pub passed_lost : next_of (drop at f) ≡ Lost → (extents_of own p₀ from f ≡ []) × (lost_in from f ≡ true)
   passed_lost e = (sym v.rest ∙ extents-lost f at own p e, sym v.lost ∙ lost_lost f at e)
 
-  module _ (x : XgemHeader) (n : next_of (drop at f) ≡ Frame x) (q : Ports) (eq : q ≡ ports_after p (reassembly_of_lem p own x.port x.last x.pli) x.pli) (b : Brought) (eb : b ≡ brought (alone_at (reassembly_of_lem p own x.port x.last x.pli) (at + 8) x.pli)) where
+  module _ (x : XgemHeader) (n : next_of (drop at f) ≡ Frame x) (q : Ports) (eq : q ≡ ports_after p (reassembly_of_lem p own x.port x.last x.pli) x.pli) (b : Option Extent) (eb : b ≡ brought (alone_at (reassembly_of_lem p own x.port x.last x.pli) (at + 8) x.pli)) where
     abbrev what : Reassembly
     what = reassembly_of_lem p own x.port x.last x.pli
 
@@ -210,7 +205,7 @@ module _ (own : PortId) (f : List ℕ) (p₀ : Ports) (from : ℕ) (p : Ports) (
         sym v.rest ∙ extents-next f at own p x n what refl
         ∙ ap₂ (λ (l : List Extent) (r : Ports). l ++ extents_of own r (at + 8 + payload_size_lem x.pli) f) e (sym eq)
 
-    pub passed_on : b ≡ Nothing → Passed own f p₀ from q (at + 8 + payload_size_lem x.pli)
+    pub passed_on : b ≡ None → Passed own f p₀ from q (at + 8 + payload_size_lem x.pli)
     unfolding behind
     passed_on e =
         record {
@@ -221,7 +216,7 @@ module _ (own : PortId) (f : List ℕ) (p₀ : Ports) (from : ℕ) (p : Ports) (
           lost = sym (lost_next f at x n) ∙ v.lost;
         }
 
-    pub passed-met : (t : Extent) → b ≡ Stretch t
+    pub passed-met : (t : Extent) → b ≡ Some t
         → (extents_of own p₀ from f ≡ t ∷ extents_of own q (at + 8 + payload_size_lem x.pli) f) × (lost_in from f ≡ lost_in (at + 8 + payload_size_lem x.pli) f) × (from < at + 8 + payload_size_lem x.pli) × (at + 8 + payload_size_lem x.pli ≤ length f)
     unfolding behind
     passed-met t e = (
@@ -236,42 +231,19 @@ pub record Behind (f : List ℕ) (begins at : ℕ) : Type 0 where
   pub inside : at ≤ length f
   pub lost : lost_in at f ≡ lost_in begins f
 
--- what its bytes say of the next frame
-was_done : (n : Next) → bytes_of n ≡ ahead.Done → n ≡ Done
-was_done Done e = refl
-was_done Lost e = never cc
-was_done (Frame x) e = never cc
-
-was_lost : (n : Next) → bytes_of n ≡ ahead.Lost → n ≡ Lost
-was_lost Done e = never cc
-was_lost Lost e = refl
-was_lost (Frame x) e = never cc
-
-was_frame : (n : Next) (bytes : ℕ) → bytes_of n ≡ Bytes bytes → (x : XgemHeader) × (n ≡ Frame x) × (payload_size_lem x.pli ≡ bytes)
-was_frame Done bytes e = never cc
-was_frame Lost bytes e = never cc
-was_frame (Frame x) bytes e = (x, refl, cc)
-
 module _ (f : List ℕ) (begins at : ℕ) (v : Behind f begins at) where
-  pub behind-done : bytes_of (next_of (drop at f)) ≡ ahead.Done → false ≡ lost_in begins f
-  behind-done e = sym (lost_done f at (was_done (next_of (drop at f)) e)) ∙ v.lost
+  pub behind-done : next_of (drop at f) ≡ Done → false ≡ lost_in begins f
+  behind-done e = sym (lost_done f at e) ∙ v.lost
 
-  pub behind_lost : bytes_of (next_of (drop at f)) ≡ ahead.Lost → true ≡ lost_in begins f
-  behind_lost e = sym (lost_lost f at (was_lost (next_of (drop at f)) e)) ∙ v.lost
+  pub behind_lost : next_of (drop at f) ≡ Lost → true ≡ lost_in begins f
+  behind_lost e = sym (lost_lost f at e) ∙ v.lost
 
-  module _ (bytes : ℕ) (e : bytes_of (next_of (drop at f)) ≡ Bytes bytes) where
-    pub behind-fits : at + 8 + bytes ≤ length f
-    behind-fits =
-        let w = was_frame (next_of (drop at f)) bytes e in
-        omega (arith, v.inside, length-drop at f, frame-inside (drop at f) w.0 w.1, w.2)
+  module _ (x : XgemHeader) (e : next_of (drop at f) ≡ Frame x) where
+    pub behind-fits : at + 8 + payload_size_lem x.pli ≤ length f
+    behind-fits = omega (arith, v.inside, length-drop at f, frame-inside (drop at f) x e)
 
-    pub behind-on : Behind f begins (at + 8 + bytes)
-    behind-on =
-        let w = was_frame (next_of (drop at f)) bytes e in
-        record {
-          inside = behind-fits;
-          lost = ap (λ (n : ℕ). lost_in (at + 8 + n) f) (sym w.2) ∙ sym (lost_next f at w.0 w.1) ∙ v.lost;
-        }
+    pub behind-on : Behind f begins (at + 8 + payload_size_lem x.pli)
+    behind-on = record { inside = behind-fits; lost = sym (lost_next f at x e) ∙ v.lost }
 
 -- ---- one of them: a list of two numbers that are 0
 first-listed : (ts : List Extent) (k : ℕ) → let l = put (0 ∷ (0 ∷ [])) 0 (numbers (take 1 (drop k ts))) in ◌≡◌ {A = Extent} (record { at = get_or l 0 0; bytes = get_or l 1 0 }) (get_or ts k no_extent)
@@ -301,7 +273,7 @@ nothing-behind own f p begins first places h =
     ∙ ap (λ (b : Bool). listing (take (room_in places) (drop first l)) b places) (sym (lost_done f begins e))
 
 -- what was decided is done
-pub turned : (p : Ports) (d e z : Reassembly) (at n : ℕ) (q : Ports) (b : Brought) → e ≡ d → e ≡ z → q ≡ ports_after p z n → b ≡ brought (alone_at z at n)
+pub turned : (p : Ports) (d e z : Reassembly) (at n : ℕ) (q : Ports) (b : Option Extent) → e ≡ d → e ≡ z → q ≡ ports_after p z n → b ≡ brought (alone_at z at n)
     → (q ≡ ports_after p d n) × (b ≡ brought (alone_at d at n))
 turned p d e z at n q b ed ez eq eb =
     let m : z ≡ d = sym ez ∙ ed in

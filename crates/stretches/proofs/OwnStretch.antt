@@ -4,15 +4,13 @@ use mathlib.Core.Path.{◌≡◌, refl, sym, ap, ap₂, ◌∙◌, subst}
 use mathlib.Core.Logic.{◌⊎◌, inl, inr}
 use mathlib.Core.Bool.{Bool, true, false, cond}
 use mathlib.Core.List.{List, [], ◌∷◌, ◌++◌}
-use Prim.Native.Nat.{ℕ, zero, suc, ◌+◌, ◌-◌, ◌≤◌, ◌<◌}
-use native.Mathlib.Nat.{add_assoc}
+use Prim.Native.Nat.{ℕ, zero, suc, ◌+◌, ◌-◌, ◌≤◌}
 use native.Mathlib.Omega.{arith}
 use borrow.Author.Tests.{eqb-true}
 use lib.Dec.{eqb}
 use lib.ListN.{length, get_or, take, drop, length-drop}
 use lib.Seq.{length-take-le, drop-drop}
 use Rattle.ids.specs.declared.PortId.{PortId}
-use Rattle.xgem.specs.declared.frame.XgemHeader.{XgemHeader}
 use Rattle.xgem.specs.Layouts.{payload_size_lem}
 use Rattle.xgem.proofs.Frames.{covers}
 use Rattle.ports.specs.declared.Ports.{Ports}
@@ -22,7 +20,7 @@ use Rattle.fragments.specs.Fragments.{reassembly_of_lem}
 use Rattle.payload.specs.declared.frames.Next.{Next}
 use Rattle.payload.specs.declared.frames.Next.TheVariants.{Done, Lost, Frame}
 use Rattle.stretches.specs.declared.Extent.{Extent}
-use Rattle.payload.specs.Frames.{Xgem, xgem_header_bytes, next_of, Parsed, ended, with, frame_of, parse}
+use Rattle.payload.specs.Frames.{Xgem, xgem_header_bytes, next_of, parse}
 use Rattle.payload.specs.Memory.{Receiver, partial, step}
 use Rattle.stretches.specs.Stretch.{no_extent, alone_at, stretches, extents_of, stretch_of, sdu_of, sdus}
 use Rattle.payload.proofs.Slots.{nothing-held}

@@ -1,27 +1,20 @@
--- The search from delivery to delivery: so many are to be passed over, then each is listed; behind the last that is wanted nothing
--- matters of a frame but how many bytes its payload takes.
+-- The search from delivery to delivery: so many are to be passed over, then each is listed.
 -- Assumes nothing.
+use Rattle.std.specs.Prelude.{None, Option, Some}
 use Rattle.std.specs.Prelude.{◌≡◌, true, false, cond, List, [], ◌∷◌, ℕ, ◌+◌, ◌*◌, ◌-◌, ◌≤◌, ◌<◌, eqb, length}
 use Rattle.ids.specs.declared.PortId.{PortId}
-use Rattle.xgem.specs.Layouts.{payload_size_lem}
 use Rattle.ports.specs.declared.Ports.{Ports}
-use Rattle.payload.specs.declared.frames.Next.{Next}
-use Rattle.payload.specs.declared.frames.Next.TheVariants as next
 use Rattle.payload.specs.Memory.{put}
 use Rattle.stretches.specs.declared.Extent.{Extent}
-use Rattle.stretches.specs.declared.headers.Ahead.{Ahead}
-use Rattle.stretches.specs.declared.headers.Ahead.TheVariants.{Done, Lost, Bytes}
-use Rattle.stretches.specs.declared.search.Brought.{Brought}
-use Rattle.stretches.specs.declared.search.Brought.TheVariants.{Nothing, Stretch}
 use Rattle.stretches.specs.declared.search.Delivery.{Delivery}
 use Rattle.stretches.specs.declared.search.Delivery.TheVariants as delivery
 use Rattle.stretches.specs.declared.search.Search.{Search}
 use Rattle.stretches.specs.Stretch.{extents_of, lost_in, numbers}
 
 -- what a frame brings: a stretch, if it delivers
-abbrev pub brought : List Extent → Brought
-brought [] = Nothing
-brought (t ∷ rest) = Stretch t
+abbrev pub brought : List Extent → Option Extent
+brought [] = None
+brought (t ∷ rest) = Some t
 
 -- the next delivery from a place of the frame on: none, and whether delineation is lost; or a stretch and where its frame ends, with
 -- the ports as they then are
@@ -41,9 +34,3 @@ noted ahead count places t =
     cond (eqb ahead 0)
     (record { search = record { ahead = 0; count = count + 1 }; places = put places (2 * count) (numbers (t ∷ [])) })
     (record { search = record { ahead = ahead - 1; count = count }; places = places })
-
--- what is ahead, by the bytes of its payload alone
-abbrev pub bytes_of : Next → Ahead
-bytes_of next.Done = Done
-bytes_of next.Lost = Lost
-bytes_of (next.Frame x) = Bytes (payload_size_lem x.pli)

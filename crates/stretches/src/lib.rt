@@ -78,14 +78,9 @@ pub fn stretch_place(
 pub fn stretch(s: &[u8], t: Extent) -> &[u8]
     ensures { result.now ≡ cut_out s.now t }
 {
-    let at = t.at;
-    let bytes = t.bytes;
-    if at <= s.len() {
-        if bytes <= s.len() - at {
-            &s[at..at + bytes]
-        } else {
-            &s[..0]
-        }
+    let Extent { at, bytes } = t;
+    if at <= s.len() && bytes <= s.len() - at {
+        &s[at..at + bytes]
     } else {
         &s[..0]
     }

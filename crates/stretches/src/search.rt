@@ -14,12 +14,6 @@ use payload::{Next, XGEM_HEADER_BYTES};
 use ports::{ADDED_PORTS, Ports, SLOTS};
 
 #[derive(Clone, Copy)]
-pub enum Brought {
-    Nothing,
-    Stretch(Extent),
-}
-
-#[derive(Clone, Copy)]
 pub enum Delivery {
     Done,
     Lost,
@@ -38,9 +32,10 @@ fn alone(have: usize, at: usize, n: usize) -> Extent
     ensures { result ≡ alone have at n }
 {
     if have == 0 {
-        return Extent { at: at, bytes: n };
+        Extent { at, bytes: n }
+    } else {
+        Extent { at: 0, bytes: 0 }
     }
-    Extent { at: 0, bytes: 0 }
 }
 
 // A fragment of n bytes from a place on: what it does to its port, and what it brings.
@@ -53,24 +48,23 @@ fn take(
     last: bool,
     n: u16,
     at: usize,
-) -> Brought
+) -> Option<Extent>
     ensures { (ports_of ids lengths.new waiting.new ≡ ports_after (ports_of ids lengths.old waiting.old) (reassembly_in_lem ids lengths.old waiting.old own port last n) n)
         × (result ≡ brought (alone_at (reassembly_in_lem ids lengths.old waiting.old own port last n) at n)) }
 {
-    let what = fragments::reassembly_of(ids, lengths, waiting, own, port, last, n);
-    match what {
-        Reassembly::Ignored => Brought::Nothing,
+    match fragments::reassembly_in(ids, lengths, waiting, own, port, last, n) {
+        Reassembly::Ignored => None,
         Reassembly::Dropped(slot, waits) => {
             ports::drop_in(lengths, waiting, slot, waits);
-            Brought::Nothing
+            None
         }
         Reassembly::Delivered(slot, have) => {
             ports::deliver_in(lengths, slot);
-            Brought::Stretch(alone(have, at, n as usize))
+            Some(alone(have, at, usize::from(n)))
         }
         Reassembly::Appended(slot, have) => {
             ports::append_in(lengths, slot, (have + n as usize) as u16);
-            Brought::Nothing
+            None
         }
     }
 }
@@ -88,8 +82,7 @@ fn next_delivery(
 {
     let mut at = from;
     loop {
-        let next = headers::next_ahead(&frame[at..]);
-        match next {
+        match payload::next_frame(&frame[at..]) {
             Next::Done => {
                 return Delivery::Done;
             }
@@ -98,14 +91,11 @@ fn next_delivery(
             }
             Next::Frame(x) => {
                 let body = at + XGEM_HEADER_BYTES;
-                let port = x.port;
-                let brought = take(ids, own, lengths, waiting, port, x.last, x.pli, body);
+                let brought = take(ids, own, lengths, waiting, x.port, x.last, x.pli, body);
                 at = body + xgem::payload_size(x.pli);
                 match brought {
-                    Brought::Nothing => {}
-                    Brought::Stretch(t) => {
-                        return Delivery::Met(t, at);
-                    }
+                    None => {}
+                    Some(t) => return Delivery::Met(t, at),
                 }
             }
         }
@@ -120,20 +110,22 @@ fn list(places: &mut [usize], i: usize, t: Extent)
     places[i + 1] = t.bytes;
 }
 
+#[tactic(auto, unfolding(crate::specs::Search::noted))]
 fn note(search: Search, places: &mut [usize], t: Extent) -> Search
     requires { 2 * search.count + 2 ≤ length places.old }
     ensures { record { search = result; places = places.new } ≡ noted search.ahead search.count places.old t }
 {
     if search.ahead == 0 {
         list(places, 2 * search.count, t);
-        return Search {
+        Search {
             ahead: 0,
             count: search.count + 1,
-        };
-    }
-    Search {
-        ahead: search.ahead - 1,
-        count: search.count,
+        }
+    } else {
+        Search {
+            ahead: search.ahead - 1,
+            count: search.count,
+        }
     }
 }
 
@@ -158,8 +150,7 @@ pub(crate) fn list_from(
     };
     let mut at = begins;
     while search.count < room {
-        let next = next_delivery(ids, own, &mut lengths, &mut waiting, frame, at);
-        match next {
+        match next_delivery(ids, own, &mut lengths, &mut waiting, frame, at) {
             Delivery::Done => {
                 return Placed {
                     count: search.count,

@@ -1,14 +1,12 @@
 -- The table holds the S-box, its values are octets, and the inverse in its definition is one: a test each, which antt computes.
 -- Assumes nothing.
-use mathlib.Core.Path.{◌≡◌, ◌∙◌, subst}
+use mathlib.Core.Path.{◌≡◌, subst}
 use mathlib.Core.Bool.{Bool}
-use Prim.Native.Nat.{ℕ, suc, ◌+◌, ◌%◌, ◌<◌}
+use Prim.Native.Nat.{ℕ, suc, ◌%◌, ◌<◌}
 use native.Mathlib.Omega.{arith}
 use lib.Dec.{T, eqb, eqb→eq, ltb, ltb→lt}
 use lib.ListN.{get_or, replicate}
-use Rattle.tables.specs.Tables.{past}
-use Rattle.tables.proofs.Entries.{past-at}
-use Rattle.tables.proofs.Rules.{every, at, equal, listed}
+use Rattle.subbytes.proofs.Rules.{every, at, equal, listed}
 use Rattle.subbytes.specs.Field.{s_box, affine, inverse, square, gmul, products, xtime}
 use Rattle.subbytes.specs.Sbox.{sbox}
 
@@ -16,8 +14,8 @@ passed : T (every (equal s_box) 0 sbox)
 unfolding s_box affine inverse square gmul products xtime
 passed = tt
 
-pub sbox_rule : (x : ℕ) → past 256 sbox (256 + x % 256) ≡ s_box (x % 256)
-sbox_rule x = past-at 256 sbox (x % 256) ∙ listed s_box sbox passed (x % 256) (omega arith)
+pub sbox_rule : (x : ℕ) → get_or sbox (x % 256) 0 ≡ s_box (x % 256)
+sbox_rule x = listed s_box sbox passed (x % 256) (omega arith)
 
 octet : ℕ → ℕ → Bool
 octet k x = ltb x 256

@@ -1,9 +1,9 @@
--- The rule of the two tables of octets, by one test of each that antt computes: in each lane the upper half is the lower one
--- plus the syndrome of one bit, and so on down.
+-- The rule of the table of octets, by one test that antt computes: in each row the upper half is the lower one plus the
+-- syndrome of one bit, and so on down.
 -- Assumes nothing.
 use mathlib.Core.Path.{◌≡◌, sym, ap, ap₂, ◌∙◌, subst}
 use mathlib.Core.Bool.{Bool, true, false, ◌&&◌}
-use mathlib.Core.List.{List, [], ◌∷◌, map}
+use mathlib.Core.List.{List, [], ◌∷◌}
 use Prim.Native.Nat.{ℕ, zero, suc, ◌+◌, ◌-◌, ◌*◌, ◌/◌, ◌%◌, ◌^◌, ◌≤◌, ◌<◌}
 use native.Mathlib.Nat.{zero-mul, one-mul, add-mul, add-zero, zero-add, pow-suc, le_of_suc-le-suc, not-suc-le-zero}
 use native.Mathlib.Decide.{dec_lt}
@@ -13,14 +13,11 @@ use lib.Pow.{pow_pos, pow-add}
 use lib.Bits.{bit_xor, xor_shifted}
 use lib.Count.{ones, ones_cat, ones-ones}
 use lib.Dec.{T, eqb, eqb→eq}
-use lib.ListN.{length, get_or, take, drop, get_or-map}
+use lib.ListN.{length, get_or, take, drop}
 use lib.Seq.{get_or-take, get_or-drop}
 use Rattle.bch.specs.Code.{remainder}
 use Rattle.bch.specs.Tables.{syndrome}
-use Rattle.tables.specs.Tables.{lane}
-use Rattle.tables.proofs.Entries.{lane-zero}
-use Rattle.syndromes.specs.Lower.{lower as lowerOctets}
-use Rattle.syndromes.specs.Upper.{upper as upperOctets}
+use Rattle.syndromes.specs.Octets.{octets}
 use Rattle.bch.proofs.Both.{left, right}
 use Rattle.bch.proofs.RemainderRule.{remainders, rule as remainder-rule}
 use Rattle.bch.proofs.Powers.{mul_lt, octet_power}
@@ -107,39 +104,26 @@ spread_at (suc n) k xs w t v h = go (dec_lt v (2 ^ n)) (spread_at n k xs (omega 
         ∙ ap (λ (x : ℕ). bit_xor x (syndrome (u * 2 ^ k))) (sym (bit-syndrome (n + k) (omega arith)) ∙ ap syndrome (sym (one-mul (2 ^ (n + k)))))
         ∙ sym (syndrome_xor (1 * 2 ^ (n + k)) (u * 2 ^ k)) ∙ ap syndrome (sym sum)
 
--- in each of the first n lanes stand the syndromes of the values of an octet, from octet o on
-lanes : ℕ → ℕ → List ℕ → Bool
+-- in row o and those behind it stand the syndromes of the values of an octet, from octet o on
+rows : ℕ → List (List ℕ) → Bool
 unfolding spread
-lanes zero o xs = true
-lanes (suc n) o xs = spread 8 ((o + n) * 8) (map (lane n) xs) && lanes n o xs
+rows o [] = true
+rows o (xs ∷ xss) = spread 8 (o * 8) xs && rows (suc o) xss
 
-lanes_at : (n o : ℕ) (xs : List ℕ) → o + n ≤ 8 → T (lanes n o xs) → (k v : ℕ) → k < n → v < 256 → lane k (get_or xs v 0) ≡ syndrome (v * 256 ^ (o + k))
-unfolding lanes
-lanes_at zero o xs w t k v hk hv = absurd (not-suc-le-zero hk)
-lanes_at (suc n) o xs w t k v hk hv = go (dec_lt k n) (λ l. lanes_at n o xs (omega arith) (right this (lanes n o xs) t) k v l hv)
-  where
-    this : Bool
-    this = spread 8 ((o + n) * 8) (map (lane n) xs)
+rows_at : (o : ℕ) (xss : List (List ℕ)) → o + length xss ≤ 8 → T (rows o xss) → (k v : ℕ) → k < length xss → v < 256
+    → get_or (get_or xss k []) v 0 ≡ syndrome (v * 256 ^ (o + k))
+unfolding rows
+rows_at o [] w t k v hk hv = absurd (not-suc-le-zero hk)
+rows_at o (xs ∷ xss) w t zero v hk hv =
+    spread_at 8 (o * 8) xs (omega arith) (left (spread 8 (o * 8) xs) (rows (suc o) xss) t) v hv
+    ∙ ap (λ (x : ℕ). syndrome (v * x)) (octet_power o ∙ ap (λ (x : ℕ). 256 ^ x) (sym (add-zero o)))
+rows_at o (xs ∷ xss) w t (suc k) v hk hv =
+    rows_at (suc o) xss (omega arith) (right (spread 8 (o * 8) xs) (rows (suc o) xss) t) k v (le_of_suc-le-suc hk) hv
+    ∙ ap (λ (x : ℕ). syndrome (v * 256 ^ x)) (omega arith)
 
-    go : Dec (k < n) → (k < n → lane k (get_or xs v 0) ≡ syndrome (v * 256 ^ (o + k))) → lane k (get_or xs v 0) ≡ syndrome (v * 256 ^ (o + k))
-    go (yes l) before = before l
-    go (no l) before =
-        let e : k ≡ n = omega arith in
-        rw e
-        (sym (get_or-map (lane n) xs v 0) ∙ ap (get_or (map (lane n) xs) v) (lane-zero n)
-        ∙ spread_at 8 ((o + n) * 8) (map (lane n) xs) (omega arith) (left this (lanes n o xs) t) v hv
-        ∙ ap (λ (x : ℕ). syndrome (v * x)) (octet_power (o + n)))
+passed : T (rows 0 octets)
+unfolding rows
+passed = tt
 
-lower-passed : T (lanes 4 0 lowerOctets)
-unfolding lanes
-lower-passed = tt
-
-upper-passed : T (lanes 4 4 upperOctets)
-unfolding lanes
-upper-passed = tt
-
-pub lower_rule : (k v : ℕ) → k < 4 → v < 256 → lane k (get_or lowerOctets v 0) ≡ syndrome (v * 256 ^ k)
-lower_rule k v hk hv = lanes_at 4 0 lowerOctets (omega arith) lower-passed k v hk hv ∙ ap (λ (x : ℕ). syndrome (v * 256 ^ x)) (zero-add k)
-
-pub upper_rule : (k v : ℕ) → k < 4 → v < 256 → lane k (get_or upperOctets v 0) ≡ syndrome (v * 256 ^ (4 + k))
-upper_rule k v hk hv = lanes_at 4 4 upperOctets (omega arith) upper-passed k v hk hv
+pub octet_rule : (k v : ℕ) → k < 8 → v < 256 → get_or (get_or octets k []) v 0 ≡ syndrome (v * 256 ^ k)
+octet_rule k v hk hv = rows_at 0 octets (omega arith) passed k v hk hv ∙ ap (λ (x : ℕ). syndrome (v * 256 ^ x)) (zero-add k)

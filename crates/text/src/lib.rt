@@ -12,7 +12,7 @@ pub const NEWLINE: u8 = 10;
 
 // One octet at a place of the text; answers the place behind it.
 pub fn put_octet(x: u8, text: &mut [u8], at: usize) -> usize
-    ensures { record { text = text.exit.now; place = result } ≡ added text.entry.now at (x ∷ []) }
+    ensures { record { text = text.new; place = result } ≡ added text.old at (x ∷ []) }
 {
     if at < text.len() {
         text[at] = x;
@@ -22,26 +22,24 @@ pub fn put_octet(x: u8, text: &mut [u8], at: usize) -> usize
 }
 
 pub fn put_word(word: &[u8], text: &mut [u8], at: usize) -> usize
-    ensures { record { text = text.exit.now; place = result } ≡ added text.entry.now at word.now }
+    ensures { record { text = text.new; place = result } ≡ added text.old at word.now }
 {
     let mut place = at;
-    let mut i: usize = 0;
-    while i < word.len() {
-        place = put_octet(word[i], text, place);
-        i += 1;
+    for octet in word {
+        place = put_octet(*octet, text, place);
     }
     place
 }
 
 fn put_digit(d: u64, text: &mut [u8], at: usize) -> usize
     requires { d < 10 }
-    ensures { record { text = text.exit.now; place = result } ≡ added text.entry.now at ((zero_digit + d) ∷ []) }
+    ensures { record { text = text.new; place = result } ≡ added text.old at ((zero_digit + d) ∷ []) }
 {
     put_octet(48 + d as u8, text, at)
 }
 
 fn put_last_two(n: u64, text: &mut [u8], at: usize) -> usize
-    ensures { record { text = text.exit.now; place = result } ≡ added text.entry.now at (last_two n) }
+    ensures { record { text = text.new; place = result } ≡ added text.old at (last_two n) }
 {
     let b = put_digit(n / 10 % 10, text, at);
     put_digit(n % 10, text, b)
@@ -49,7 +47,7 @@ fn put_last_two(n: u64, text: &mut [u8], at: usize) -> usize
 
 // A number in decimal, two digits at a time.
 pub fn put_decimal(n: u64, text: &mut [u8], at: usize) -> usize
-    ensures { record { text = text.exit.now; place = result } ≡ added text.entry.now at (decimal n) }
+    ensures { record { text = text.new; place = result } ≡ added text.old at (decimal n) }
 {
     if n < 10 {
         return put_digit(n, text, at);
@@ -63,7 +61,7 @@ pub fn put_decimal(n: u64, text: &mut [u8], at: usize) -> usize
 
 // A number and what ends it. Most have one digit.
 pub fn put_field(n: u64, end: u8, text: &mut [u8], at: usize) -> usize
-    ensures { record { text = text.exit.now; place = result } ≡ added text.entry.now at (field n end) }
+    ensures { record { text = text.new; place = result } ≡ added text.old at (field n end) }
 {
     if n < 10 {
         let b = put_digit(n, text, at);

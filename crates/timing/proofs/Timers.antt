@@ -1,16 +1,15 @@
 -- The timers: TO1 goes to O2-3 with its 80,000th counting frame time and not before, TO2 to O1 with its 800th.
 -- Assumes nothing.
-use Prim.Native.Nat.{ℕ, zero, suc, ◌+◌, ◌-◌, ◌≤◌, ◌<◌}
-use mathlib.Core.Path.{◌≡◌, ◌∙◌, refl, sym, ap}
-use mathlib.Core.Bool.{Bool, true, false, cond}
+use Prim.Native.Nat.{ℕ, zero, suc, ◌-◌, ◌≤◌, ◌<◌}
+use mathlib.Core.Path.{◌≡◌}
+use mathlib.Core.Bool.{Bool, true}
 use native.Mathlib.Omega.{arith}
 use borrow.Author.Tests.{le-leb, lt-leb}
 use Rattle.station.specs.declared.Activation.{Activation}
 use Rattle.station.specs.declared.Activation.TheVariants.{Initial, SerialNumber, Ranging, Operation, Intermittent}
 use Rattle.station.specs.declared.Station.{Station}
 use Rattle.station.specs.Limits.{to1, to2}
-use Rattle.station.specs.Station.{enter, with_activation_lem}
-use Rattle.timing.specs.Timing.{count_to1_lem, count_to2_lem, end_from, frame_end_lem, silence, lost_from, lost_state_lem, lost_time_lem, unread_from, unread_state_lem, unread_time_lem}
+use Rattle.timing.specs.Timing.{count_to1_lem, count_to2_lem, frame_end_lem, silence, lost_state_lem, lost_time_lem, unread_state_lem, unread_time_lem}
 
 -- a call again and again
 pub times : {A : Type 0} → ℕ → (A → A) → A → A

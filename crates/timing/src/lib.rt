@@ -9,6 +9,7 @@ use station::limits::TO2;
 use station::{Activation, Station};
 
 // TO1 counts down, and at 0 goes to O2-3.
+#[tactic(auto, unfolding(crate::specs::Timing::count_to1_lem))]
 fn count_to1(s: Station, left: u32) -> Station
     ensures { result ≡ count_to1_lem s left }
 {
@@ -19,6 +20,7 @@ fn count_to1(s: Station, left: u32) -> Station
 }
 
 // TO2 counts down, and at 0 goes to O1.
+#[tactic(auto, unfolding(crate::specs::Timing::count_to2_lem))]
 fn count_to2(s: Station, left: u32) -> Station
     ensures { result ≡ count_to2_lem s left }
 {
@@ -29,69 +31,67 @@ fn count_to2(s: Station, left: u32) -> Station
 }
 
 // Nothing was received and nothing sent.
+#[tactic(auto, unfolding(crate::specs::Timing::silence))]
 fn silence(s: Station) -> Station
     ensures { result ≡ silence s }
 {
-    let ports = s.ports;
-    s.with_ports(ports.drop_all()).with_carried(0)
+    s.with_ports(s.ports.drop_all()).with_carried(0)
 }
 
 // The one step after a frame's messages. TO1 counts if the frame arrived in O4.
+#[tactic(auto, unfolding(crate::specs::Timing::frame_end_lem))]
 pub fn frame_end(s: Station, arrived_ranging: bool) -> Station
     ensures { result ≡ frame_end_lem s arrived_ranging }
 {
-    let a = s.activation;
-    match a {
+    match s.activation {
         Activation::Initial => s.enter(Activation::SerialNumber),
-        Activation::SerialNumber => s,
         Activation::Ranging(left) => {
             if arrived_ranging {
                 return count_to1(s, left);
             }
             s
         }
-        Activation::Operation => s,
         Activation::Intermittent(_) => s.with_activation(Activation::Operation),
-        Activation::EmergencyStop => s,
+        Activation::SerialNumber | Activation::Operation | Activation::EmergencyStop => s,
     }
 }
 
+#[tactic(auto, unfolding(crate::specs::Timing::lost_state_lem))]
 fn lost_state(s: Station) -> Station
     ensures { result ≡ lost_state_lem s }
 {
-    let a = s.activation;
-    match a {
-        Activation::Initial => s,
-        Activation::SerialNumber => s.enter(Activation::Initial),
-        Activation::Ranging(_) => s.enter(Activation::Initial),
+    match s.activation {
+        Activation::SerialNumber | Activation::Ranging(_) => s.enter(Activation::Initial),
         Activation::Operation => s.with_activation(Activation::Intermittent(TO2)),
         Activation::Intermittent(left) => count_to2(s, left),
-        Activation::EmergencyStop => s,
+        Activation::Initial | Activation::EmergencyStop => s,
     }
 }
 
 // A frame time in which the synchroniser reports LODS.
+#[tactic(auto, unfolding(crate::specs::Timing::lost_time_lem))]
 pub fn lost_time(s: Station) -> Station
     ensures { result ≡ lost_time_lem s }
 {
     silence(lost_state(s))
 }
 
+#[tactic(auto, unfolding(crate::specs::Timing::unread_state_lem))]
 fn unread_state(s: Station) -> Station
     ensures { result ≡ unread_state_lem s }
 {
-    let a = s.activation;
-    match a {
-        Activation::Initial => s,
-        Activation::SerialNumber => s,
+    match s.activation {
         Activation::Ranging(left) => count_to1(s, left),
-        Activation::Operation => s,
         Activation::Intermittent(left) => count_to2(s, left),
-        Activation::EmergencyStop => s,
+        Activation::Initial
+        | Activation::SerialNumber
+        | Activation::Operation
+        | Activation::EmergencyStop => s,
     }
 }
 
 // The frame time of a frame that is answered 4 or 5.
+#[tactic(auto, unfolding(crate::specs::Timing::unread_time_lem))]
 pub fn unread_time(s: Station) -> Station
     ensures { result ≡ unread_time_lem s }
 {

@@ -31,14 +31,12 @@ fn print_records(
     requires { (record_bytes * count ≤ length input.now) × (most_line * count ≤ length text.old) }
     ensures { (record { at = record { run = result.run; lent = lending memory.new plan.new replies.new deliveries.new }; text = text.new; place = result.place } ≡ shown (record { run = run; lent = lending memory.old plan.old replies.old deliveries.old }) (records count input.now) text.old 0) × (result.place ≤ most_line * count) }
 {
-    let mut p = Printed { run: run, place: 0 };
-    let mut i = 0;
-    while i < count {
+    let mut p = Printed { run, place: 0 };
+    for i in 0..count {
         let from = i * records::RECORD;
         let to = from + records::RECORD;
-        let run = p.run;
         p = records::print_record(
-            run,
+            p.run,
             &input[from..to],
             memory,
             plan,
@@ -47,7 +45,6 @@ fn print_records(
             text,
             p.place,
         );
-        i += 1;
     }
     p
 }
@@ -57,12 +54,7 @@ fn move_to_front(input: &mut [u8], from: usize, to: usize)
     requires { (from ≤ to) × (to ≤ length input.old) }
     ensures { input.new ≡ put input.old 0 (take (to - from) (drop from input.old)) }
 {
-    let n = to - from;
-    let mut i = 0;
-    while i < n {
-        input[i] = input[from + i];
-        i += 1;
-    }
+    input.copy_within(from..to, 0);
 }
 
 // A read has filled the input up to a place.
@@ -83,9 +75,8 @@ pub(crate) fn turn(
     let used = count * records::RECORD;
     let p = print_records(run, input, count, memory, plan, replies, deliveries, text);
     move_to_front(input, used, filled);
-    let next = p.run;
     Handled {
-        run: next,
+        run: p.run,
         kept: filled - used,
         written: p.place,
     }

@@ -21,14 +21,6 @@ const TEXT: usize = 8192;
 
 const DELIVERIES: usize = records::FRAME + payload::MEMORY_BYTES;
 
-// What a read has brought: the input is filled up to a place, or has ended, or cannot be read.
-#[derive(Clone, Copy)]
-enum Got {
-    Filled(usize),
-    Ended,
-    Failed,
-}
-
 // Room for what the system says of a failed call.
 const WORDS: usize = 256;
 
@@ -46,20 +38,20 @@ fn fail(rt: &impl Eprint, stream: &str, error: &io::Error) {
     let _ = eprintln!(rt; "trace: {stream}: {why}");
 }
 
-// Reads what is there, up to 64 KB, behind what was kept. A read that a signal interrupts has brought nothing.
-fn read_on(rt: &impl Eprint, stdin: &mut impl Read, input: &mut [u8], kept: usize) -> Got
+// Reads what is there, up to 64 KB, behind what was kept: up to where the input is now filled, or nothing if it has ended.
+// A read that a signal interrupts has brought nothing.
+fn read_on(stdin: &mut impl Read, input: &mut [u8], kept: usize) -> io::Result<Option<usize>>
     requires { kept ≤ length input.old }
     ensures { Within (length input.old) result }
 {
     match stdin.read(&mut input[kept..]) {
-        Ok(0) => Got::Ended,
-        Ok(n) => Got::Filled(kept + n),
+        Ok(0) => Ok(None),
+        Ok(n) => Ok(Some(kept + n)),
         Err(e) => {
             if e.kind() == ErrorKind::Interrupted {
-                return Got::Filled(kept);
+                return Ok(Some(kept));
             }
-            fail(rt, "standard input", &e);
-            Got::Failed
+            Err(e)
         }
     }
 }
@@ -88,8 +80,7 @@ fn finish(rt: &(impl Print + Eprint), run: Run, kept: usize, text: &mut [u8])
     write_out(rt, text, place);
 }
 
-// A proved loop has to end, and nothing says that the input does: the turns are counted down from a number that no run
-// uses up.
+// A proved loop has to end, and nothing says that the input does: there are as many turns as no run uses up.
 fn main(rt: HostRuntime) {
     let mut stdin = rt.stdin();
     let mut input = [0u8; INPUT];
@@ -100,11 +91,9 @@ fn main(rt: HostRuntime) {
     let mut text = [0u8; TEXT];
     let mut run = records::start();
     let mut kept = 0;
-    let mut turns = u64::MAX;
-    while turns > 0 {
-        turns -= 1;
-        match read_on(&rt, &mut stdin, &mut input, kept) {
-            Got::Filled(filled) => {
+    for _turn in 0..u64::MAX {
+        match read_on(&mut stdin, &mut input, kept) {
+            Ok(Some(filled)) => {
                 let h = blocks::turn(
                     run,
                     &mut input,
@@ -124,11 +113,12 @@ fn main(rt: HostRuntime) {
                     return;
                 }
             }
-            Got::Ended => {
+            Ok(None) => {
                 finish(&rt, run, kept, &mut text);
                 return;
             }
-            Got::Failed => {
+            Err(e) => {
+                fail(&rt, "standard input", &e);
                 return;
             }
         }

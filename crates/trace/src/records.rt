@@ -45,7 +45,7 @@ pub(crate) fn start() -> Run
 {
     let station = Station::power_on([0; 8], [0; 36]);
     Run {
-        station: station,
+        station,
         number: 0,
         stopped: false,
     }
@@ -56,8 +56,8 @@ fn onward(run: Run, station: Station) -> Run
     ensures { result ≡ onward run station }
 {
     Run {
-        station: station,
-        number: std::num::wrapping_add_u64(run.number, 1),
+        station,
+        number: run.number.wrapping_add(1),
         stopped: run.stopped,
     }
 }
@@ -72,37 +72,14 @@ fn stop(mut run: Run) -> Run
 fn kind_of(octets: &[u8]) -> Kind
     ensures { result ≡ kind_of octets.now }
 {
-    if octets.len() != RECORD {
+    if octets.len() != RECORD || octets[1] != 0 || octets[2] != 0 || octets[3] != 0 {
         return Kind::Bad;
     }
-    if octets[1] != 0 {
-        return Kind::Bad;
+    match octets[0] {
+        0 => Kind::Lost,
+        1 => Kind::Frame,
+        _ => Kind::Bad,
     }
-    if octets[2] != 0 {
-        return Kind::Bad;
-    }
-    if octets[3] != 0 {
-        return Kind::Bad;
-    }
-    if octets[0] == 0 {
-        return Kind::Lost;
-    }
-    if octets[0] == 1 {
-        return Kind::Frame;
-    }
-    Kind::Bad
-}
-
-fn wide(x: u8) -> u64
-    ensures { result ≡ x }
-{
-    x as u64
-}
-
-fn long(x: usize) -> u64
-    ensures { result ≡ x }
-{
-    x as u64
 }
 
 // The line of what a record's call has answered; the run goes on.
@@ -110,21 +87,18 @@ fn print_outcome(run: Run, o: Outcome, c: Counts, text: &mut [u8], place: usize)
     requires { place + most_line ≤ length text.old }
     ensures { (result.run ≡ onward run o.station) × (text.new ≡ put text.old place (line_of run.number o c)) × (result.place ≡ place + length (line_of run.number o c)) × (result.place ≤ place + most_line) }
 {
-    let answer = o.answer;
-    let station = o.station;
-    let state = station.activation;
     let next = lines::put_line(
         run.number,
-        wide(answer.number()),
-        wide(state.number()),
-        long(c.records),
-        long(c.replies),
-        long(c.bytes),
+        u64::from(o.answer.number()),
+        u64::from(o.station.activation.number()),
+        c.records as u64,
+        c.replies as u64,
+        c.bytes as u64,
         text,
         place,
     );
     Printed {
-        run: onward(run, station),
+        run: onward(run, o.station),
         place: next,
     }
 }
@@ -144,27 +118,28 @@ pub(crate) fn print_record(
     ensures { (record { at = record { run = result.run; lent = lending memory.new plan.new replies.new deliveries.new }; text = text.new; place = result.place } ≡ shown_by (step (record { run = run; lent = lending memory.old plan.old replies.old deliveries.old }) octets.now) text.old place) × (result.place ≤ place + most_line) }
 {
     if run.stopped {
-        return Printed {
-            run: run,
-            place: place,
-        };
+        return Printed { run, place };
     }
-    let s = run.station;
     match kind_of(octets) {
         Kind::Lost => {
-            let o = engine::lost(s);
+            let o = engine::lost(run.station);
             print_outcome(run, o, Counts::none(), text, place)
         }
         Kind::Frame => {
-            let r = engine::frame(s, memory, &octets[HEAD..], 0, plan, replies, deliveries);
-            let answer = r.answer;
-            let next = r.station;
+            let r = engine::frame(
+                run.station,
+                memory,
+                &octets[HEAD..],
+                0,
+                plan,
+                replies,
+                deliveries,
+            );
             let o = Outcome {
-                answer: answer,
-                station: next,
+                answer: r.answer,
+                station: r.station,
             };
-            let c = r.counts;
-            print_outcome(run, o, c, text, place)
+            print_outcome(run, o, r.counts, text, place)
         }
         Kind::Bad => {
             let next = lines::put_bad(run.number, text, place);

@@ -87,9 +87,9 @@ numbers_fit l e = rw (sym e) (ap (λ (x : Bool). not (some is_unfit l) && x) (di
 
 -- ---- counted one after another: no sum is too large
 
-pub times-most : (n : ℕ) (l : List ℕ) → times n l ≤ length l
-times-most n [] = omega arith
-times-most n (m ∷ l) = go (eqb n m) (times-most n l)
+pub times_most : (n : ℕ) (l : List ℕ) → times n l ≤ length l
+times_most n [] = omega arith
+times_most n (m ∷ l) = go (eqb n m) (times_most n l)
   where
     go : (t : Bool) → times n l ≤ length l → cond t 1 0 + times n l ≤ suc (length l)
     go true h = omega arith

@@ -1,87 +1,47 @@
 -- The tests of all places, one turn at a time.
 -- Assumes nothing.
-use Prim.Native.Nat.{ℕ, zero, suc, ◌+◌, ◌-◌, ◌≤◌, ◌<◌}
+use Prim.Native.Nat.{ℕ, zero, suc, ◌+◌, ◌-◌, ◌<◌}
 use mathlib.Core.Path.{◌≡◌, ◌∙◌, refl, sym, ap, ap₂}
 use mathlib.Core.List.{List, ◌++◌, append-nil}
 use mathlib.Core.Bool.{Bool, true, false, not, ◌&&◌, ◌||◌, cond, and_assoc}
 use native.Mathlib.Omega.{arith}
 use native.Mathlib.Numerals.{add-one}
-use lib.ListN.{length, get_or, drop, set, drop_of_length-le}
+use lib.ListN.{length, get_or, drop, drop_of_length-le}
 use lib.Seq.{sets, sets-eq, drop-cons}
 use lib.Dec.{eqb, leb}
 use borrow.Author.Tests.{le-leb, eqb-true}
-use Rattle.ids.specs.Places.{some}
 use Rattle.ids.specs.declared.PortId.{PortId}
 use Rattle.ids.specs.Ids.{same_port}
 use Rattle.ports.specs.Limits.{sdu_bytes}
 use Rattle.ports.specs.Ports.{no_port}
-use Rattle.validity.specs.Ranges.{every, place_number_lem, numbers_from, times, equal_pairs_lem, partial_fits, slot_fits, partials_fit_lem, length_fits_lem, empty_fits}
+use Rattle.validity.specs.Ranges.{every, numbers_from, times, equal_pairs_lem, partial_fits, slot_fits, partials_fit_lem, length_fits_lem, empty_fits}
 use Rattle.validity.proofs.Places.{numbers-length}
 
 -- ---- every number from i below n passes a test
 
-pub every-turn : (f : ℕ → Bool) (i n : ℕ) (all : Bool) → i < n → ((all && f i) && every f (i + 1) (n - (i + 1))) ≡ (all && every f i (n - i))
-every-turn f i n all h = let e : n - i ≡ suc (n - (i + 1)) = omega arith in rw e (and_assoc all (f i) (every f (i + 1) (n - (i + 1))))
-
-pub every_end : (f : ℕ → Bool) (i n : ℕ) (all : Bool) → n ≤ i → all ≡ (all && every f i (n - i))
-every_end f i n true h = let e : n - i ≡ 0 = omega arith in rw e
-every_end f i n false h = refl
-
--- ---- none from i on passes a test
-
-pub none_turn
-    : (f : ℕ → Bool) (l : List ℕ) (i : ℕ) (all : Bool) → i < length l
-    → ((all && not (f (get_or l i 0))) && not (some f (drop (i + 1) l))) ≡ (all && not (some f (drop i l)))
-none_turn f l i all h = rw (add-one i, drop-cons l i 0 h) (go all (f (get_or l i 0)))
-  where
-    go : (a b : Bool) → ((a && not b) && not (some f (drop (suc i) l))) ≡ (a && not (b || some f (drop (suc i) l)))
-    go true true = refl
-    go true false = refl
-    go false b = refl
-
-pub none_end : (f : ℕ → Bool) (l : List ℕ) (i : ℕ) (all : Bool) → length l ≤ i → all ≡ (all && not (some f (drop i l)))
-none_end f l i true h = rw (drop_of_length-le l {i = i} h)
-none_end f l i false h = refl
+pub every_turn
+    : (f : ℕ → Bool) (i n : ℕ) (all fits : Bool) → i < n → fits ≡ f i
+    → ((all && fits) && every f (i + 1) (n - (i + 1))) ≡ (all && every f i (n - i))
+every_turn f i n all fits h e =
+    let k : n - i ≡ suc (n - (i + 1)) = omega arith in
+    rw (k, e) (and_assoc all (f i) (every f (i + 1) (n - (i + 1))))
 
 -- ---- numbers counted from i on
-
-pub times-turn
-    : (n : ℕ) (l : List ℕ) (i sum one : ℕ) → i < length l → one ≡ cond (eqb n (get_or l i 0)) 1 0
-    → (sum + one) + times n (drop (i + 1) l) ≡ sum + times n (drop i l)
-times-turn n l i sum one h e = rw (add-one i, drop-cons l i 0 h, e) (omega arith)
-
-pub one-most : (t : Bool) (one : ℕ) → one ≡ cond t 1 0 → one ≤ 1
-one-most true one e = omega arith
-one-most false one e = omega arith
-
-pub times_end : (n : ℕ) (l : List ℕ) (i : ℕ) → length l ≤ i → times n (drop i l) ≡ 0
-times_end n l i h = rw (drop_of_length-le l {i = i} h)
 
 pub pairs_turn
     : (k l : List ℕ) (i sum found : ℕ) → i < length k → found ≡ times (get_or k i 0) l
     → (sum + found) + equal_pairs_lem (drop (i + 1) k) l ≡ sum + equal_pairs_lem (drop i k) l
 pairs_turn k l i sum found h e = rw (add-one i, drop-cons k i 0 h, e) (omega arith)
 
-pub pairs_end : (k l : List ℕ) (i : ℕ) → length k ≤ i → equal_pairs_lem (drop i k) l ≡ 0
-pairs_end k l i h = rw (drop_of_length-le k {i = i} h)
-
 -- ---- the numbers of places set from i on
 
 module _ {A : Type 0} (used : ℕ → A → Bool) (ok : A → Bool) (number : A → ℕ) where
-  pub numbers-start : (ids : List A) (l : List ℕ) → length l ≡ length ids → sets l 0 (numbers_from used ok number 0 ids) ≡ numbers_from used ok number 0 ids
-  numbers-start ids l e =
+  pub numbers_start : (ids : List A) (l : List ℕ) → length l ≡ length ids → sets l 0 (numbers_from used ok number 0 ids) ≡ numbers_from used ok number 0 ids
+  numbers_start ids l e =
       let n : length (numbers_from used ok number 0 ids) ≡ length ids = numbers-length used ok number 0 ids in
       sets-eq (numbers_from used ok number 0 ids) l 0 (omega arith)
       ∙ ap (λ (r : List ℕ). numbers_from used ok number 0 ids ++ r) (drop_of_length-le l {i = 0 + length (numbers_from used ok number 0 ids)} (omega arith))
       ∙ append-nil (numbers_from used ok number 0 ids)
-
-  pub numbers-turn
-      : (ids : List A) (d : A) (l : List ℕ) (i x : ℕ) → i < length ids → x ≡ place_number_lem (used i (get_or ids i d)) (ok (get_or ids i d)) (number (get_or ids i d)) i
-      → sets (set l i x) (i + 1) (numbers_from used ok number (i + 1) (drop (i + 1) ids)) ≡ sets l i (numbers_from used ok number i (drop i ids))
-  numbers-turn ids d l i x h e = rw (drop-cons ids i d h, e, add-one i)
-
-  pub numbers_end : (ids : List A) (l : List ℕ) (i : ℕ) → length ids ≤ i → l ≡ sets l i (numbers_from used ok number i (drop i ids))
-  numbers_end ids l i h = rw (drop_of_length-le ids {i = i} h)
 
 -- ---- a partial fits where its length does and its slot, if empty, has none
 

@@ -1,7 +1,7 @@
 // The paper's "State ranges": what answer 1 refuses.
 #![tactic(auto)]
 
-ghost use Rattle.std.specs.Prelude.{◌≡◌, Bool, false, not, cond};
+ghost use Rattle.std.specs.Prelude.{◌≡◌, false, not};
 ghost use Rattle.ids.specs.Ids.{within};
 ghost use Rattle.ports.specs.Limits.{added_ports, slots};
 ghost use Rattle.ids.specs.Places.{some};
@@ -16,23 +16,21 @@ use station::limits::{LAST_WORD, TO1, TO2};
 use station::{Activation, Station};
 
 // "ONU-ID at most 1,022 in O4, O5, O6, else 1,023"
+#[tactic(auto, unfolding(crate::specs::Ranges::identity_fits_lem))]
 fn identity_fits(a: Activation, onu: OnuId) -> bool
     ensures { result ≡ identity_fits_lem a onu }
 {
     if a.holds_identity() {
-        return onu.is_assignable();
+        onu.is_assignable()
+    } else {
+        onu == OnuId::broadcast()
     }
-    let none = OnuId::broadcast();
-    onu.is(none)
 }
 
 fn count_fits(left: u32, most: u32) -> bool
     ensures { result ≡ within 1 most left }
 {
-    if left < 1 {
-        return false;
-    }
-    left <= most
+    1 <= left && left <= most
 }
 
 // "TO1 1 to 80,000, TO2 1 to 800"
@@ -40,12 +38,9 @@ fn timer_fits(a: Activation) -> bool
     ensures { result ≡ timer_fits_lem a }
 {
     match a {
-        Activation::Initial => true,
-        Activation::SerialNumber => true,
         Activation::Ranging(left) => count_fits(left, TO1),
-        Activation::Operation => true,
         Activation::Intermittent(left) => count_fits(left, TO2),
-        Activation::EmergencyStop => true,
+        _ => true,
     }
 }
 
@@ -55,6 +50,7 @@ fn timer_fits(a: Activation) -> bool
 const UNFIT: u16 = 65535;
 
 // An unused place's own number is no other's: all that can be assigned are above 15 (Tables 6-2 and 6-3).
+#[tactic(auto, unfolding(crate::specs::Ranges::place_number_lem))]
 fn place_number(used: bool, assignable: bool, number: u16, place: u16) -> u16
     ensures { result ≡ place_number_lem used assignable number place }
 {
@@ -67,29 +63,25 @@ fn place_number(used: bool, assignable: bool, number: u16, place: u16) -> u16
     number
 }
 
+#[tactic(auto, using(crate::proofs::Laws::numbers_start), unfolding(crate::specs::Ranges::alloc_numbers_lem))]
 fn alloc_numbers(ids: [AllocId; 16], n: usize) -> [u16; 16]
     ensures { result ≡ alloc_numbers_lem n ids }
 {
     let mut numbers = [0u16; 16];
-    let mut i: usize = 0;
-    while i < link::ADDED_ALLOCS {
-        let id = ids[i];
+    for (i, id) in ids.iter().enumerate() {
         numbers[i] = place_number(i < n, id.is_assignable(), id.0, i as u16);
-        i += 1;
     }
     numbers
 }
 
+#[tactic(auto, using(crate::proofs::Laws::numbers_start), unfolding(crate::specs::Ranges::port_numbers_lem))]
 fn port_numbers(ids: [PortId; 16]) -> [u16; 16]
     ensures { result ≡ port_numbers_lem ids }
 {
     let none = PortId(0);
     let mut numbers = [0u16; 16];
-    let mut i: usize = 0;
-    while i < ports::ADDED_PORTS {
-        let id = ids[i];
-        numbers[i] = place_number(!id.is(none), id.is_assignable(), id.0, i as u16);
-        i += 1;
+    for (i, id) in ids.iter().enumerate() {
+        numbers[i] = place_number(*id != none, id.is_assignable(), id.0, i as u16);
     }
     numbers
 }
@@ -98,63 +90,49 @@ fn none_unfit(numbers: [u16; 16]) -> bool
     ensures { result ≡ not (some is_unfit numbers) }
 {
     let mut all = true;
-    let mut i: usize = 0;
-    while i < 16 {
-        all = all & (numbers[i] != UNFIT);
-        i += 1;
+    for number in &numbers {
+        all &= *number != UNFIT;
     }
     all
-}
-
-fn one_if(hit: bool) -> u16
-    ensures { result ≡ cond hit 1 0 }
-{
-    if hit { 1 } else { 0 }
 }
 
 fn times_in(numbers: [u16; 16], number: u16) -> u16
     ensures { result ≡ times number numbers }
 {
-    let mut sum: u16 = 0;
-    let mut i: usize = 0;
-    while i < 16 {
-        sum += one_if(number == numbers[i]);
-        i += 1;
+    let mut sum = 0;
+    for other in &numbers {
+        sum += u16::from(number == *other);
     }
     sum
 }
 
 // 16 where they are distinct: each number then equals only itself.
+#[tactic(auto, using(crate::proofs::Counts::times_most))]
 fn equal_pairs(numbers: [u16; 16]) -> u16
     ensures { result ≡ equal_pairs_lem numbers numbers }
 {
-    let mut sum: u16 = 0;
-    let mut i: usize = 0;
-    while i < 16 {
-        sum += times_in(numbers, numbers[i]);
-        i += 1;
+    let mut sum = 0;
+    for number in &numbers {
+        sum += times_in(numbers, *number);
     }
     sum
 }
 
+#[tactic(auto, unfolding(crate::specs::Ranges::numbers_fit_lem))]
 fn numbers_fit(numbers: [u16; 16]) -> bool
     ensures { result ≡ numbers_fit_lem numbers }
 {
-    let fit = none_unfit(numbers);
-    fit & (equal_pairs(numbers) == 16)
+    none_unfit(numbers) & (equal_pairs(numbers) == 16)
 }
 
+#[tactic(auto, using(crate::proofs::Places::allocs_all), unfolding(crate::specs::Ranges::allocs_fit_lem))]
 fn allocs_fit(allocs: Allocs) -> bool
     ensures { result ≡ allocs_fit_lem allocs }
 {
-    let ids = allocs.ids;
-    let n = allocs.count;
-    if link::ADDED_ALLOCS < n {
-        return false;
-    }
-    numbers_fit(alloc_numbers(ids, n))
+    allocs.count <= link::ADDED_ALLOCS && numbers_fit(alloc_numbers(allocs.ids, allocs.count))
 }
 
+#[tactic(auto, using(crate::proofs::Places::ports_all))]
 fn ports_fit(ids: [PortId; 16]) -> bool
     ensures { result ≡ ports_fit_lem ids }
 {
@@ -162,23 +140,23 @@ fn ports_fit(ids: [PortId; 16]) -> bool
 }
 
 // "partials at most 2,048, and 0 for a waiting port"
+#[tactic(auto, unfolding(crate::specs::Ranges::partial_fits))]
 fn length_fits(bytes: u16, waits: bool) -> bool
     ensures { result ≡ partial_fits bytes waits false }
 {
     if waits {
-        return bytes == 0;
+        bytes == 0
+    } else {
+        usize::from(bytes) <= SDU_BYTES
     }
-    bytes as usize <= SDU_BYTES
 }
 
 fn lengths_fit(lengths: [u16; 17], waiting: [bool; 17]) -> bool
     ensures { result ≡ every (length_fits_lem lengths waiting) 0 slots }
 {
     let mut all = true;
-    let mut i: usize = 0;
-    while i < ports::SLOTS {
-        all = all & length_fits(lengths[i], waiting[i]);
-        i += 1;
+    for (slot, bytes) in lengths.iter().enumerate() {
+        all &= length_fits(*bytes, waiting[slot]);
     }
     all
 }
@@ -189,53 +167,28 @@ fn empties_fit(ids: [PortId; 16], lengths: [u16; 17]) -> bool
 {
     let none = PortId(0);
     let mut all = true;
-    let mut i: usize = 0;
-    while i < ports::ADDED_PORTS {
-        let id = ids[i];
-        all = all & (!id.is(none) | (lengths[i + 1] == 0));
-        i += 1;
+    for (i, id) in ids.iter().enumerate() {
+        all &= (*id != none) | (lengths[i + 1] == 0);
     }
     all
 }
 
+#[tactic(auto, using(crate::proofs::Laws::partials_both))]
 fn partials_fit(ids: [PortId; 16], lengths: [u16; 17], waiting: [bool; 17]) -> bool
     ensures { result ≡ partials_fit_lem ids lengths waiting }
 {
-    if !lengths_fit(lengths, waiting) {
-        return false;
-    }
-    empties_fit(ids, lengths)
+    lengths_fit(lengths, waiting) && empties_fit(ids, lengths)
 }
 
+#[tactic(auto, unfolding(crate::specs::Ranges::in_range))]
 pub fn in_range(s: Station) -> bool
     ensures { result ≡ in_range s }
 {
-    let a = s.activation;
-    let link = s.link;
-    let onu = link.onu;
-    let allocs = link.allocs;
-    let owed = link.owed;
-    let ports = s.ports;
-    let ids = ports.ids;
-    let lengths = ports.lengths;
-    let waiting = ports.waiting;
-    if !identity_fits(a, onu) {
-        return false;
-    }
-    if !allocs_fit(allocs) {
-        return false;
-    }
-    if !ports_fit(ids) {
-        return false;
-    }
-    if !partials_fit(ids, lengths, waiting) {
-        return false;
-    }
-    if LAST_WORD < s.carried {
-        return false;
-    }
-    if !timer_fits(a) {
-        return false;
-    }
-    owed.count <= link::MOST_OWED
+    identity_fits(s.activation, s.link.onu)
+        && allocs_fit(s.link.allocs)
+        && ports_fit(s.ports.ids)
+        && partials_fit(s.ports.ids, s.ports.lengths, s.ports.waiting)
+        && s.carried <= LAST_WORD
+        && timer_fits(s.activation)
+        && s.link.owed.count <= link::MOST_OWED
 }

@@ -4,7 +4,7 @@
 // is read by its places and by its octets, and is right only where both are. Each line says how many of how many.
 ghost use Rattle.std.specs.Prelude.{◌≤◌};
 
-use hec::{Reading32, Reading64};
+use hec::{Word32, Word64};
 use std::io;
 
 // Table A.1, from bit position 63 to 1.
@@ -60,10 +60,9 @@ const TABLE_A3: [u32; 24] = [
     0x66200f13, 0x6e691f63, 0x6e651360, 0x4d61022e, 0x612e011b, 0x642018d4, 0x72650a9a, 0x2020162f,
 ];
 
-// What a word reads as, that it is unreadable, or that its two readings differ.
-#[derive(Clone, Copy)]
-enum Outcome {
-    Reads(u64),
+// Why a word has no reading: it is not to be mended, or its two readings differ.
+#[derive(Clone, Copy, PartialEq, Eq)]
+enum Unread {
     Unreadable,
     Differ,
 }
@@ -72,123 +71,89 @@ fn line(rt: &impl Print, name: &str, right: u64, of: u64) -> io::Result<()> {
     println!(rt; "{name} {right} of {of}")
 }
 
-fn counted(n: u64, m: u64) -> u64 {
-    std::num::wrapping_add_u64(n, m)
+fn counted(n: u64, right: bool) -> u64 {
+    n.wrapping_add(u64::from(right))
 }
 
-fn one_if(right: bool) -> u64 {
-    if right { 1 } else { 0 }
-}
-
-fn outcome64(r: Reading64) -> Outcome {
+fn bits64(r: Option<Word64>) -> Result<u64, Unread> {
     match r {
-        Reading64::Word(w) => Outcome::Reads(w.bits()),
-        Reading64::Unreadable => Outcome::Unreadable,
+        Some(w) => Ok(w.bits()),
+        None => Err(Unread::Unreadable),
     }
 }
 
-fn outcome32(r: Reading32) -> Outcome {
+fn bits32(r: Option<Word32>) -> Result<u64, Unread> {
     match r {
-        Reading32::Word(w) => {
-            let bits = w.bits();
-            Outcome::Reads(bits as u64)
-        }
-        Reading32::Unreadable => Outcome::Unreadable,
-    }
-}
-
-fn is_wanted(found: Outcome, mended: bool, wanted: u64) -> bool {
-    match found {
-        Outcome::Reads(v) => mended && v == wanted,
-        Outcome::Unreadable => !mended,
-        Outcome::Differ => false,
-    }
-}
-
-fn same(one: Outcome, other: Outcome) -> bool {
-    match one {
-        Outcome::Reads(v) => is_wanted(other, true, v),
-        Outcome::Unreadable => is_wanted(other, false, 0),
-        Outcome::Differ => false,
+        Some(w) => Ok(u64::from(w.bits())),
+        None => Err(Unread::Unreadable),
     }
 }
 
 // A word of 64 bits by its places and by its octets: what both read it as.
-fn both(word: u64) -> Outcome {
-    let by_places = outcome64(hec::read64(word));
-    let by_octets = outcome64(hec::read64_by_octets(word));
-    if same(by_places, by_octets) {
+fn both(word: u64) -> Result<u64, Unread> {
+    let by_places = bits64(hec::read64(word));
+    let by_octets = bits64(hec::read64_by_octets(word));
+    if by_places == by_octets {
         by_places
     } else {
-        Outcome::Differ
+        Err(Unread::Differ)
     }
 }
 
 // A word of 64 bits, or a short one of 32.
-fn read(short: bool, word: u64) -> Outcome {
+fn read(short: bool, word: u64) -> Result<u64, Unread> {
     if short {
-        outcome32(hec::read32((word % 0x1_0000_0000) as u32))
+        bits32(hec::read32((word % 0x1_0000_0000) as u32))
     } else {
         both(word)
     }
 }
 
-// How many of the words with one of the lowest bits flipped read as wanted, or are unreadable if it is not to be mended.
-fn one_flip(bits: u32, mended: bool, wanted: u64, word: u64, below: u32) -> u64
+// How many of the words with one of the lowest bits flipped read as wanted.
+fn one_flip(bits: u32, wanted: Result<u64, Unread>, word: u64, below: u32) -> u64
     requires { below ≤ 64 }
 {
     let mut right: u64 = 0;
-    let mut at: u32 = 0;
-    while at < below {
+    for at in 0..below {
         let flip: u64 = 1 << at;
-        let found = read(bits == 32, word ^ flip);
-        right = counted(right, one_if(is_wanted(found, mended, wanted)));
-        at += 1;
+        right = counted(right, read(bits == 32, word ^ flip) == wanted);
     }
     right
 }
 
-fn two_flips(bits: u32, mended: bool, wanted: u64, word: u64, below: u32) -> u64
+fn two_flips(bits: u32, wanted: Result<u64, Unread>, word: u64, below: u32) -> u64
     requires { below ≤ 64 }
 {
     let mut right: u64 = 0;
-    let mut at: u32 = 0;
-    while at < below {
+    for at in 0..below {
         let flip: u64 = 1 << at;
-        right = counted(right, one_flip(bits, mended, wanted, word ^ flip, at));
-        at += 1;
+        right = right.wrapping_add(one_flip(bits, wanted, word ^ flip, at));
     }
     right
 }
 
-fn three_flips(bits: u32, wanted: u64, word: u64) -> u64
+fn three_flips(bits: u32, wanted: Result<u64, Unread>, word: u64) -> u64
     requires { bits ≤ 64 }
 {
     let mut right: u64 = 0;
-    let mut at: u32 = 0;
-    while at < bits {
+    for at in 0..bits {
         let flip: u64 = 1 << at;
-        right = counted(right, two_flips(bits, false, wanted, word ^ flip, at));
-        at += 1;
+        right = right.wrapping_add(two_flips(bits, wanted, word ^ flip, at));
     }
     right
 }
 
 fn table_a1(rt: &impl Print) -> io::Result<()> {
-    let remainders = bch::remainders::table();
-    let printed = TABLE_A1;
     let mut right: u64 = 0;
-    let mut k: usize = 0;
-    while k < 63 {
-        right = counted(right, one_if(remainders[k] == printed[62 - k]));
-        k += 1;
+    for (remainder, printed) in bch::remainders::table().iter().zip(TABLE_A1.iter().rev()) {
+        right = counted(right, remainder == printed);
     }
     line(rt, "A.1 syndromes", right, 63)
 }
 
 // The counts of a table: words that read as themselves, words written from their data bits, and flips of one, two and
 // three bits.
-#[derive(Clone, Copy)]
+#[derive(Clone, Copy, Default)]
 struct Counts {
     read: u64,
     written: u64,
@@ -198,43 +163,27 @@ struct Counts {
 }
 
 fn stands(mut c: Counts, bits: u32, word: u64, written: u64) -> Counts {
-    let found = read(bits == 32, word);
-    c.read = counted(c.read, one_if(is_wanted(found, true, word)));
-    c.written = counted(c.written, one_if(written == word));
+    c.read = counted(c.read, read(bits == 32, word) == Ok(word));
+    c.written = counted(c.written, written == word);
     c
 }
 
 fn flipped(mut c: Counts, bits: u32, word: u64) -> Counts
     requires { bits ≤ 64 }
 {
-    let one = one_flip(bits, true, word, word, bits);
-    let two = two_flips(bits, true, word, word, bits);
-    let three = three_flips(bits, word, word);
-    c.one = counted(c.one, one);
-    c.two = counted(c.two, two);
-    c.three = counted(c.three, three);
+    c.one = c.one.wrapping_add(one_flip(bits, Ok(word), word, bits));
+    c.two = c.two.wrapping_add(two_flips(bits, Ok(word), word, bits));
+    c.three = c
+        .three
+        .wrapping_add(three_flips(bits, Err(Unread::Unreadable), word));
     c
 }
 
-fn nothing() -> Counts {
-    Counts {
-        read: 0,
-        written: 0,
-        one: 0,
-        two: 0,
-        three: 0,
-    }
-}
-
 fn table_a2(rt: &impl Print) -> io::Result<()> {
-    let words = TABLE_A2;
-    let mut c = nothing();
-    let mut k: usize = 0;
-    while k < 33 {
-        let word = words[k];
+    let mut c = Counts::default();
+    for word in TABLE_A2 {
         let written = hec::write64(word / 0x2000);
         c = flipped(stands(c, 64, word, written.bits()), 64, word);
-        k += 1;
     }
     line(rt, "A.2 read", c.read, 33)?;
     line(rt, "A.2 written", c.written, 33)?;
@@ -243,24 +192,15 @@ fn table_a2(rt: &impl Print) -> io::Result<()> {
     line(rt, "A.2 three bits unreadable", c.three, 33 * 41664)
 }
 
-fn written32(word: u32) -> u64 {
-    let written = hec::write32(word / 0x2000);
-    let bits = written.bits();
-    bits as u64
-}
-
-fn wide(word: u32) -> u64 {
-    word as u64
-}
-
 fn table_a3(rt: &impl Print) -> io::Result<()> {
-    let words = TABLE_A3;
-    let mut c = nothing();
-    let mut k: usize = 0;
-    while k < 24 {
-        let word = words[k];
-        c = flipped(stands(c, 32, wide(word), written32(word)), 32, wide(word));
-        k += 1;
+    let mut c = Counts::default();
+    for word in TABLE_A3 {
+        let written = hec::write32(word / 0x2000);
+        c = flipped(
+            stands(c, 32, u64::from(word), u64::from(written.bits())),
+            32,
+            u64::from(word),
+        );
     }
     line(rt, "A.3 read", c.read, 24)?;
     line(rt, "A.3 written", c.written, 24)?;
@@ -272,31 +212,28 @@ fn table_a3(rt: &impl Print) -> io::Result<()> {
 // A word of 32 bits with the syndrome of a flip at two bit positions of 64: its check bits, and the last bit for the
 // parity of two ones.
 fn with_syndrome(syndrome: u16) -> u64 {
-    let check = (syndrome % 4096) as u64 * 2;
-    check + (u64::count_ones(check) % 2) as u64
+    let check = u64::from(syndrome % 4096) * 2;
+    check + u64::from(check.count_ones() % 2)
 }
 
 // The 31 words, one for each sent bit and the unsent bit at `above`, whose only repair would flip that zero.
-fn unsent_at(remainders: &[u16; 63], above: u16) -> u64 {
+fn unsent_at(sent: &[u16], above: u16) -> u64 {
     let mut right: u64 = 0;
-    let mut k: usize = 0;
-    while k < 31 {
-        let word = with_syndrome(above ^ remainders[k]);
-        let found = read(true, word);
-        right = counted(right, one_if(is_wanted(found, false, 0)));
-        k += 1;
+    for below in sent {
+        right = counted(
+            right,
+            read(true, with_syndrome(above ^ *below)) == Err(Unread::Unreadable),
+        );
     }
     right
 }
 
 fn unsent_zeros(rt: &impl Print) -> io::Result<()> {
     let remainders = bch::remainders::table();
+    let (sent, unsent) = remainders.split_at(31);
     let mut right: u64 = 0;
-    let mut k: usize = 31;
-    while k < 63 {
-        let above = remainders[k];
-        right = counted(right, unsent_at(&remainders, above));
-        k += 1;
+    for above in unsent {
+        right = right.wrapping_add(unsent_at(sent, *above));
     }
     line(rt, "HLend not mended in unsent zeros", right, 32 * 31)
 }

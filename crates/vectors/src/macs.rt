@@ -3,7 +3,7 @@
 use cmac::Prepared;
 use ids::OnuId;
 use integrity::Direction;
-use ploam::{AllocChange, Completion, Content, Message, Received, SerialNumber};
+use ploam::{AllocChange, Completion, Content, Message, SerialNumber};
 use ploamu::UpstreamMessage;
 use std::io;
 
@@ -24,10 +24,8 @@ fn truth(rt: &impl Print, b: bool) -> io::Result<()> {
 }
 
 fn hex(rt: &impl Print, m: &[u8]) -> io::Result<()> {
-    let mut i: usize = 0;
-    while i < m.len() {
-        octet(rt, m[i])?;
-        i += 1;
+    for b in m {
+        octet(rt, *b)?;
     }
     Ok(())
 }
@@ -212,8 +210,8 @@ fn downstream_message(rt: &impl Print, usual: Prepared, installed: Prepared) -> 
     let m =
         b"\x00\x13\x0a\x03\x04\x45\x01\x00\x00\x00\x00\x00\x00\x00\x00\x00\x00\x00\x00\x00\x00\x00\x00\x00\x00\x00\x00\x00\x00\x00\x00\x00\x00\x00\x00\x00\x00\x00\x00\x00\x46\x39\x87\x56\x28\x08\x14\xe6";
     match ploam::reading::read(m) {
-        Received::Whole(message) => fields(rt, message),
-        Received::Short => text(rt, "short"),
+        Some(message) => fields(rt, message),
+        None => text(rt, "short"),
     }?;
     text(rt, ", genuine under PLOAM_IK:")?;
     truth(rt, integrity::genuine(usual, installed, m))?;

@@ -22,14 +22,13 @@ use Rattle.downstream.specs.declared.Opening.TheVariants.{Refused, Unread, Opene
 use Rattle.downstream.specs.Lengths.{length_fits_lem}
 use Rattle.downstream.specs.Partitions.{header_end_lem}
 use Rattle.downstream.specs.Opening.{opening, by_hlend_lem}
-use Rattle.layout.specs.declared.Contents.{Contents}
-use Rattle.layout.specs.declared.Contents.TheVariants.{Held, Unreadable, Short}
-use Rattle.layout.specs.declared.StateRead.{StateRead}
+use Rattle.std.specs.Prelude.{Result, Ok, Err}
+use Rattle.xgem.specs.declared.ReadError.{ReadError}
 use Rattle.layout.specs.Layout.{read_of}
 use Rattle.engine.specs.declared.naming.Named.{Named}
 use Rattle.engine.specs.Naming.{NamesLeft, names_fit, names_by, named_in, why_dark_lem}
-use Rattle.why_dark.specs.Words.{meaning, too_short_lem, too_long_lem}
-use Rattle.why_dark.specs.Report.{refusal, lines, report_of, frame_report, state_report, report}
+use Rattle.why_dark.specs.Words.{meaning, too_long_lem}
+use Rattle.why_dark.specs.Report.{refusal, lines, report_of, frame_report, unread_report, state_report, report}
 use Rattle.why_dark.proofs.Counted.{count_within}
 
 module _ (s : Station) (f : List ℕ) (r : Named) (left : List ℕ)
@@ -51,44 +50,39 @@ module _ (s : Station) (f : List ℕ) (r : Named) (left : List ℕ)
 
 -- ---- the state's octets
 
-is_short : Contents → Bool
-is_short Held = false
-is_short Unreadable = false
-is_short Short = true
+is_ok : Result Station ReadError → Bool
+is_ok (Ok s) = true
+is_ok (Err e) = false
 
--- a state is held only where there are octets enough
-pub held-long : (b : List ℕ) (r : StateRead) → r ≡ read_of b → r.contents ≡ Held → 208 ≤ length b
-unfolding read_of is_short
-held-long b r e h = go (leb 208 (length b)) refl
+-- a state is read only where there are octets enough
+pub held-long : (b : List ℕ) (r : Result Station ReadError) (s : Station) → r ≡ read_of b → r ≡ Ok s → 208 ≤ length b
+unfolding read_of is_ok
+held-long b r s e h = go (leb 208 (length b)) refl
   where
     go : (t : Bool) → leb 208 (length b) ≡ t → 208 ≤ length b
     go true l = leb-true 208 (length b) l
-    go false l = absurd (true≢false (ap is_short (sym (rw l at (ap (λ z. z.contents) e)) ∙ h)))
+    go false l = absurd (true≢false (ap is_ok (sym h ∙ rw l at e)))
 
 -- ---- an input
 
 pub long-told : (input : List ℕ) → 135640 < length input → too_long_lem ≡ report input
 unfolding report
 long-told input h =
-    ap (λ b. cond b too_long_lem (state_report (read_of input).contents (read_of input).station (drop 208 input))) (sym (lt-ltb 135640 (length input) h))
+    ap (λ b. cond b too_long_lem (state_report (read_of input) (drop 208 input))) (sym (lt-ltb 135640 (length input) h))
 
-module _ (input : List ℕ) (r : StateRead) (read : r ≡ read_of input) (fits : length input ≤ 135640) where
-  told-by : (k : Contents) → r.contents ≡ k → state_report k r.station (drop 208 input) ≡ report input
+module _ (input : List ℕ) (r : Result Station ReadError) (read : r ≡ read_of input) (fits : length input ≤ 135640) where
+  told-by : (x : Result Station ReadError) → r ≡ x → state_report x (drop 208 input) ≡ report input
   unfolding report
-  told-by k e =
-      ap (λ z. state_report z r.station (drop 208 input)) (sym e)
-      ∙ ap (λ z. state_report z.contents z.station (drop 208 input)) read
-      ∙ ap (λ b. cond b too_long_lem (state_report (read_of input).contents (read_of input).station (drop 208 input))) (sym (le-ltb 135640 (length input) fits))
+  told-by x e =
+      ap (λ z. state_report z (drop 208 input)) (sym e ∙ read)
+      ∙ ap (λ b. cond b too_long_lem (state_report (read_of input) (drop 208 input))) (sym (le-ltb 135640 (length input) fits))
 
-  pub held-told : r.contents ≡ Held → frame_report r.station (take (length input - 208) (drop 208 input)) ≡ report input
-  held-told e =
-      ap (frame_report r.station) (take_all (length input - 208) (drop 208 input) (simp length-drop (omega arith))) ∙ told-by Held e
+  pub held-told : (s : Station) → r ≡ Ok s → frame_report s (take (length input - 208) (drop 208 input)) ≡ report input
+  held-told s e =
+      ap (frame_report s) (take_all (length input - 208) (drop 208 input) (simp length-drop (omega arith))) ∙ told-by (Ok s) e
 
-  pub unreadable_told : r.contents ≡ Unreadable → refusal StateOutOfRange ≡ report input
-  unreadable_told e = told-by Unreadable e
-
-  pub short_told : r.contents ≡ Short → too_short_lem ≡ report input
-  short_told e = told-by Short e
+  pub unread_told : (x : ReadError) → r ≡ Err x → unread_report x ≡ report input
+  unread_told x e = told-by (Err x) e
 
 -- ---- what refuses a frame has a meaning: it is one of 1 to 5
 

@@ -21,8 +21,9 @@ use Rattle.xgtc.specs.declared.allocation.Allocation.{Allocation}
 use Rattle.xgtc.specs.Layouts.{allocation_of}
 use Rattle.xgtc.specs.Reads.{read_allocation_lem}
 use Rattle.station.specs.declared.Station.{Station}
-use Rattle.layout.specs.declared.Contents.{Contents}
-use Rattle.layout.specs.declared.Contents.TheVariants.{Held, Unreadable, Short}
+use Rattle.std.specs.Prelude.{Result, Ok, Err}
+use Rattle.xgem.specs.declared.ReadError.{ReadError}
+use Rattle.xgem.specs.declared.ReadError.TheVariants.{Unreadable, Short}
 use Rattle.layout.specs.Layout.{read_of}
 use Rattle.engine.specs.Naming.{NamesLeft, why_dark_lem}
 use Rattle.why_dark.proofs.Counted.{count_within}
@@ -166,16 +167,16 @@ frame-within s f = report_of_within (why_dark_lem s f (replicate 2047 0)) f (cou
 
 -- ---- an input
 
-state_within : (c : Contents) (s : Station) (f : List ℕ) → length (state_report c s f) ≤ 2047 * 128
-state_within Held s f = frame-within s f
-state_within Unreadable s f = omega (arith, refusal-within StateOutOfRange)
-state_within Short s f = omega arith
+state_within : (r : Result Station ReadError) (f : List ℕ) → length (state_report r f) ≤ 2047 * 128
+state_within (Ok s) f = frame-within s f
+state_within (Err Unreadable) f = omega (arith, refusal-within StateOutOfRange)
+state_within (Err Short) f = omega arith
 
 -- the text that is lent has room for all that is printed
 pub report-within : (input : List ℕ) → length (report input) ≤ 2047 * 128
 unfolding report
 report-within input = go (ltb (208 + 135432) (length input))
   where
-    go : (b : Bool) → length (cond b too_long_lem (state_report (read_of input).contents (read_of input).station (drop 208 input))) ≤ 2047 * 128
+    go : (b : Bool) → length (cond b too_long_lem (state_report (read_of input) (drop 208 input))) ≤ 2047 * 128
     go true = omega arith
-    go false = state_within (read_of input).contents (read_of input).station (drop 208 input)
+    go false = state_within (read_of input) (drop 208 input)

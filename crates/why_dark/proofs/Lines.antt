@@ -1,12 +1,12 @@
 -- Structures, named and told one after another.
 -- Assumes nothing.
 use mathlib.Core.Path.{◌≡◌, refl, sym, ap, ◌∙◌}
-use mathlib.Core.Bool.{cond}
+use mathlib.Core.Bool.{true, false, cond}
+use Rattle.std.specs.Prelude.{◌==◌}
 use mathlib.Core.List.{List, [], ◌++◌}
 use Prim.Native.Nat.{ℕ, suc, ◌+◌, ◌*◌, ◌-◌, ◌≤◌, ◌<◌}
 use native.Mathlib.Omega.{arith}
 use native.Mathlib.Numerals.{add-one}
-use borrow.Author.Tests.{eq-eqb, ne_eqb}
 use lib.ListN.{length, take, drop, get_or, length-drop, drop_of_length-le, get_or-eq_default}
 use lib.Seq.{drop-cons, take_all}
 use Rattle.text.specs.Texts.{Added, added}
@@ -14,7 +14,7 @@ use Rattle.text.proofs.Adding.{added_next, added_none}
 use Rattle.xgem.specs.Reads.{Found, short}
 use Rattle.xgtc.specs.declared.allocation.Allocation.{Allocation}
 use Rattle.xgtc.specs.Reads.{read_allocation_lem}
-use Rattle.why_dark.specs.Words.{names, name_of, no_structures}
+use Rattle.why_dark.specs.Words.{names, name_of, no_structures, labelled}
 use Rattle.why_dark.specs.Report.{line_of, structure, lines_from, lines}
 
 past : (n k : ℕ) → k ≤ n → (n ≡ k → ⊥) → suc k ≤ n
@@ -29,6 +29,10 @@ module _ (n : ℕ) (a : n ≡ 0 → ⊥) (b : n ≡ 1 → ⊥) (c : n ≡ 2 → 
       let four : 4 ≤ n = past n 3 (past n 2 (past n 1 (past n 0 (omega arith) a) b) c) d in
       let eight : 8 ≤ n = past n 7 (past n 6 (past n 5 (past n 4 four e) f) g) h in
       get_or-eq_default names [] (past n 10 (past n 9 (past n 8 eight i) j) k)
+
+-- a number told is what it is
+pub told_as : (label l : List ℕ) (at n m : ℕ) (y : Added) → y ≡ added l at (labelled label n) → n ≡ m → y ≡ added l at (labelled label m)
+told_as label l at n m y e h = e ∙ ap (λ k. added l at (labelled label k)) h
 
 -- ---- a structure by its number
 
@@ -64,8 +68,8 @@ lines_end f l i x all h g = added_none x ∙ ap (λ z. added x.text x.place (lin
 
 -- ---- none, or some
 
-pub none_told : (f l : List ℕ) → length l ≡ 0 → no_structures ≡ lines f l
-none_told f l h = ap (λ b. cond b no_structures (lines_from f 0 l)) (sym (eq-eqb (length l) 0 h))
+pub none_told : (f l : List ℕ) → (length l == 0) ≡ true → no_structures ≡ lines f l
+none_told f l h = ap (λ b. cond b no_structures (lines_from f 0 l)) (sym h)
 
-pub some-told : (f l : List ℕ) → (length l ≡ 0 → ⊥) → lines_from f 0 l ≡ lines f l
-some-told f l h = ap (λ b. cond b no_structures (lines_from f 0 l)) (sym (ne_eqb (length l) 0 h))
+pub some-told : (f l : List ℕ) → (length l == 0) ≡ false → lines_from f 0 l ≡ lines f l
+some-told f l h = ap (λ b. cond b no_structures (lines_from f 0 l)) (sym h)

@@ -1,11 +1,9 @@
 -- What a read has brought.
 -- Assumes nothing.
-use Rattle.std.specs.Prelude.{ℕ, ◌≤◌}
-use Rattle.why_dark.specs.declared.Got.{Got}
-use Rattle.why_dark.specs.declared.Got.TheVariants.{Filled, Ended, Failed}
+use Rattle.std.specs.Prelude.{ℕ, ◌≤◌, Option, None, Some, Result, Ok, Err}
 
 -- the input is not filled beyond its end
-abbrev pub Within : ℕ → Got → Type 0
-Within most (Filled n) = n ≤ most
-Within most Ended = Unit {0}
-Within most Failed = Unit {0}
+abbrev pub Within : {E : Type 0} → ℕ → Result (Option ℕ) E → Type 0
+Within most (Ok (Some n)) = n ≤ most
+Within most (Ok None) = Unit {0}
+Within most (Err e) = Unit {0}

@@ -1,7 +1,7 @@
 -- "takes the state and one frame and names, for every structure of the map, what became of it": what is printed of an input that
 -- holds a state's octets and behind them a frame.
 -- Assumes nothing.
-use Rattle.std.specs.Prelude.{ℕ, ◌+◌, ◌*◌, cond, List, [], ◌∷◌, ◌++◌, eqb, ltb, length, take, drop, replicate}
+use Rattle.std.specs.Prelude.{Result, Ok, Err, ℕ, ◌+◌, ◌*◌, cond, List, [], ◌∷◌, ◌++◌, eqb, ltb, length, take, drop, replicate}
 use Rattle.text.specs.Texts.{ascii, space, newline}
 use Rattle.text.specs.Decimals.{field}
 use Rattle.answers.specs.declared.Answer.{Answer}
@@ -14,8 +14,8 @@ use Rattle.station.specs.declared.Station.{Station}
 use Rattle.entries.specs.Limits.{structure_octets}
 use Rattle.downstream.specs.Limits.{most_frame}
 use Rattle.downstream.specs.Partitions.{hlend_octets}
-use Rattle.layout.specs.declared.Contents.{Contents}
-use Rattle.layout.specs.declared.Contents.TheVariants.{Held, Unreadable, Short}
+use Rattle.xgem.specs.declared.ReadError.{ReadError}
+use Rattle.xgem.specs.declared.ReadError.TheVariants.{Unreadable, Short}
 use Rattle.layout.specs.Offsets.{state_bytes}
 use Rattle.layout.specs.Layout.{read_of}
 use Rattle.engine.specs.Naming.{NamesLeft, most_structures, why_dark_lem}
@@ -76,16 +76,19 @@ frame_report s f = report_of (why_dark_lem s f (replicate most_structures 0)) f
 -- ---- an input
 
 -- octets that are no state's are refused as a state out of range is
-abbrev pub state_report : Contents → Station → List ℕ → List ℕ
-state_report Held s f = frame_report s f
-state_report Unreadable s f = refusal StateOutOfRange
-state_report Short s f = too_short_lem
+abbrev pub unread_report : ReadError → List ℕ
+unread_report Unreadable = refusal StateOutOfRange
+unread_report Short = too_short_lem
+
+abbrev pub state_report : Result Station ReadError → List ℕ → List ℕ
+state_report (Ok s) f = frame_report s f
+state_report (Err e) f = unread_report e
 
 -- all that is printed
 unfoldable pub report : List ℕ → List ℕ
 report input =
     cond (ltb (state_bytes + most_frame) (length input)) too_long_lem
-    (state_report (read_of input).contents (read_of input).station (drop state_bytes input))
+    (state_report (read_of input) (drop state_bytes input))
 
 -- ---- how long it can be
 

@@ -20,14 +20,6 @@ const MOST_LINE: usize = 128;
 
 const TEXT: usize = engine::MOST_STRUCTURES * MOST_LINE;
 
-// What a read has brought: the input is filled up to a place, or has ended, or cannot be read.
-#[derive(Clone, Copy)]
-enum Got {
-    Filled(usize),
-    Ended,
-    Failed,
-}
-
 // Room for what the system says of a failed call.
 const WORDS: usize = 256;
 
@@ -45,20 +37,20 @@ fn fail(rt: &impl Eprint, stream: &str, error: &io::Error) {
     let _ = eprintln!(rt; "why_dark: {stream}: {why}");
 }
 
-// Reads behind what was read. A read that a signal interrupts has brought nothing; one into a full input has nothing to bring, and ends it.
-fn read_on(rt: &impl Eprint, stdin: &mut impl Read, input: &mut [u8], filled: usize) -> Got
+// Reads behind what was read: up to where the input is now filled, or nothing if it has ended. A read that a signal interrupts
+// has brought nothing; one into a full input has nothing to bring, and ends it.
+fn read_on(stdin: &mut impl Read, input: &mut [u8], filled: usize) -> io::Result<Option<usize>>
     requires { filled ≤ length input.old }
     ensures { Within (length input.old) result }
 {
     match stdin.read(&mut input[filled..]) {
-        Ok(0) => Got::Ended,
-        Ok(n) => Got::Filled(filled + n),
+        Ok(0) => Ok(None),
+        Ok(n) => Ok(Some(filled + n)),
         Err(e) => {
             if e.kind() == ErrorKind::Interrupted {
-                return Got::Filled(filled);
+                return Ok(Some(filled));
             }
-            fail(rt, "standard input", &e);
-            Got::Failed
+            Err(e)
         }
     }
 }
@@ -73,25 +65,23 @@ fn print(rt: &(impl Print + Eprint), input: &[u8], filled: usize, text: &mut [u8
     }
 }
 
-// A proved loop has to end, and nothing says that the input does: the turns are counted down from a number that no run
-// uses up.
+// A proved loop has to end, and nothing says that the input does: there are as many turns as no run uses up.
 fn main(rt: HostRuntime) {
     let mut stdin = rt.stdin();
     let mut input = [0u8; INPUT];
     let mut text = [0u8; TEXT];
     let mut filled = 0;
-    let mut turns = u64::MAX;
-    while turns > 0 {
-        turns -= 1;
-        match read_on(&rt, &mut stdin, &mut input, filled) {
-            Got::Filled(n) => {
+    for _turn in 0..u64::MAX {
+        match read_on(&mut stdin, &mut input, filled) {
+            Ok(Some(n)) => {
                 filled = n;
             }
-            Got::Ended => {
+            Ok(None) => {
                 print(&rt, &input, filled, &mut text);
                 return;
             }
-            Got::Failed => {
+            Err(e) => {
+                fail(&rt, "standard input", &e);
                 return;
             }
         }

@@ -1,14 +1,15 @@
 // What is printed of an input: a state's octets, and behind them a frame.
 ghost use Rattle.std.specs.Prelude.{◌≡◌, ◌≤◌, length, take};
 ghost use Rattle.text.specs.Texts.{added};
-ghost use Rattle.why_dark.specs.Report.{refusal, frame_report, report, most_text};
+ghost use Rattle.why_dark.specs.Report.{refusal, frame_report, unread_report, report, most_text};
 
 use super::{structures, words};
 use answers::Answer;
 use downstream::lengths::MOST_FRAME;
 use engine::{MOST_STRUCTURES, Station};
-use layout::{Contents, STATE_BYTES};
+use layout::STATE_BYTES;
 use text::NEWLINE;
+use xgem::ReadError;
 
 // The longest input that is a state and a frame.
 pub(crate) const MOST_INPUT: usize = STATE_BYTES + MOST_FRAME;
@@ -16,7 +17,7 @@ pub(crate) const MOST_INPUT: usize = STATE_BYTES + MOST_FRAME;
 fn put_refusal(answer: Answer, text: &mut [u8], at: usize) -> usize
     ensures { record { text = text.new; place = result } ≡ added text.old at (refusal answer) }
 {
-    let b = words::put_labelled(b"refused ", answer.number() as u64, text, at);
+    let b = words::put_labelled(b"refused ", u64::from(answer.number()), text, at);
     let c = text::put_word(b": ", text, b);
     let d = words::put_meaning(answer, text, c);
     text::put_octet(NEWLINE, text, d)
@@ -27,12 +28,19 @@ fn put_frame(s: Station, frame: &[u8], text: &mut [u8], at: usize) -> usize
 {
     let mut names = [0u8; MOST_STRUCTURES];
     let named = engine::why_dark(s, frame, &mut names);
-    let answer = named.answer;
-    if answer.number() != answers::DONE {
-        return put_refusal(answer, text, at);
+    if named.answer.number() != answers::DONE {
+        return put_refusal(named.answer, text, at);
     }
-    let count = named.count;
-    structures::put_structures(frame, &names[..count], text, at)
+    structures::put_structures(frame, &names[..named.count], text, at)
+}
+
+fn put_unread(error: ReadError, text: &mut [u8], at: usize) -> usize
+    ensures { record { text = text.new; place = result } ≡ added text.old at (unread_report error) }
+{
+    match error {
+        ReadError::Unreadable => put_refusal(Answer::StateOutOfRange, text, at),
+        ReadError::Short => text::put_word(b"input too short: no state of 208 bytes\n", text, at),
+    }
 }
 
 fn put_report(input: &[u8], text: &mut [u8], at: usize) -> usize
@@ -45,15 +53,9 @@ fn put_report(input: &[u8], text: &mut [u8], at: usize) -> usize
             at,
         );
     }
-    let read = layout::read_state(input);
-    let contents = read.contents;
-    match contents {
-        Contents::Held => {
-            let s = read.station;
-            put_frame(s, &input[STATE_BYTES..], text, at)
-        }
-        Contents::Unreadable => put_refusal(Answer::StateOutOfRange, text, at),
-        Contents::Short => { text::put_word(b"input too short: no state of 208 bytes\n", text, at) }
+    match layout::read_state(input) {
+        Ok(s) => put_frame(s, &input[STATE_BYTES..], text, at),
+        Err(error) => put_unread(error, text, at),
     }
 }
 

@@ -1,22 +1,19 @@
 -- What is put behind what was put before, and the size of a frame.
 -- Assumes nothing.
-use mathlib.Core.Path.{◌≡◌, refl, sym, ap, ap₂, ◌∙◌, subst}
-use mathlib.Core.Bool.{Bool, true, false, cond}
-use mathlib.Core.List.{List, [], ◌∷◌, ◌++◌, append_assoc, append-nil}
-use Prim.Native.Nat.{ℕ, zero, suc, ◌+◌, ◌-◌, ◌*◌, ◌/◌, ◌^◌, ◌≤◌, ◌<◌}
+use mathlib.Core.Path.{◌≡◌, refl, sym, ap, ap₂, ◌∙◌}
+use mathlib.Core.List.{List, [], ◌++◌, append_assoc, append-nil}
+use Prim.Native.Nat.{ℕ, zero, suc, ◌+◌, ◌-◌, ◌*◌, ◌/◌, ◌≤◌, ◌<◌}
 use native.Mathlib.Decide.{dec_lt}
 use native.Mathlib.Omega.{arith}
 use borrow.Author.Tests.{ne_eqb, lt-ltb, le-ltb}
 use borrow.Rule.Slice.PartMut.{put_mid}
-use lib.Dec.{eqb, ltb}
-use lib.ListN.{length, take, drop, replicate, length-append, length-drop, length-replicate, drop_of_length-le}
+use lib.ListN.{length, take, drop, length-append, length-drop, length-replicate, drop_of_length-le}
 use lib.Seq.{take_at, drop_at, take_all, drop-drop}
 use Rattle.octets.specs.Octets.{octets}
 use Rattle.xgem.specs.Layouts.{payload_size_lem, xgem_word}
 use Rattle.xgem.specs.Writes.{put, padding, xgem_frame}
 use Rattle.xgem.specs.declared.frame.XgemHeader.{XgemHeader}
 use Rattle.octets.proofs.Numbers.{octets-length}
-use Rattle.xgem.proofs.Padding.{put-length}
 
 -- s in the part of a target behind p: the target holds both
 pub put-behind : (t p s u : List ℕ) (k : ℕ) → length p ≡ k → k + length s ≤ length t → u ≡ put t p

@@ -1,6 +1,6 @@
 -- The steps of the readers and writers, over plain variables: what their tests show of the definitions.
 -- Assumes nothing.
-use mathlib.Core.Path.{◌≡◌, refl, sym, ap, ap₂, ◌∙◌}
+use mathlib.Core.Path.{◌≡◌, refl, ap, ◌∙◌}
 use mathlib.Core.Bool.{Bool, true, false, cond, ◌&&◌}
 use mathlib.Core.List.{List}
 use Prim.Native.Nat.{ℕ, ◌%◌, ◌^◌, ◌≤◌, ◌<◌}
@@ -39,3 +39,7 @@ module _ (fits : Bool) (s t : List ℕ) where
 pub fitted : (fits : Bool) (n k d : ℕ) (t : List ℕ) → (fits ≡ true → d < 2 ^ k) → wrote fits (octets n (protected (d % 2 ^ k))) t ≡ wrote fits (octets n (protected d)) t
 fitted true n k d t h = ap (λ (x : ℕ). wrote true (octets n (protected x)) t) (mod-eq_of_lt (h refl))
 fitted false n k d t h = refl
+
+-- and the word of data bits that fit is that of all of them
+pub fitted_word : (fits : Bool) (n k d w : ℕ) (t : List ℕ) → (fits ≡ true → d < 2 ^ k) → w ≡ protected (d % 2 ^ k) → wrote fits (octets n w) t ≡ wrote fits (octets n (protected d)) t
+fitted_word fits n k d w t h e = ap (λ (x : ℕ). wrote fits (octets n x) t) e ∙ fitted fits n k d t h

@@ -1,12 +1,12 @@
 -- What reading a structure finds at the start of a list of octets.
 -- Assumes nothing.
-use Rattle.std.specs.Prelude.{cond, List, ℕ, leb, length, take}
+use Rattle.std.specs.Prelude.{Err, Ok, Result, cond, List, ℕ, leb, length, take}
+use Rattle.xgem.specs.declared.ReadError.{ReadError}
+use Rattle.xgem.specs.declared.ReadError.TheVariants.{Short, Unreadable}
 use Rattle.hec.specs.Reads.{Reading, word, unreadable as unreadable-word, reading}
 use Rattle.octets.specs.Octets.{value}
 use Rattle.xgem.specs.Layouts.{xgem_of}
 use Rattle.xgem.specs.declared.frame.XgemHeader.{XgemHeader}
-use Rattle.xgem.specs.declared.frame.XgemRead.{XgemRead}
-use Rattle.xgem.specs.declared.frame.XgemRead.TheVariants.{Fields as XgemFields, Unreadable as XgemUnreadable, Short as XgemShort}
 
 pub data Found (X : Type 0) : Type 0 where
   fields : X → Found X
@@ -26,7 +26,7 @@ abbrev pub read_xgem_lem : List ℕ → Found XgemHeader
 read_xgem_lem s = read_as (reading 64) 8 xgem_of s
 
 -- the code's answers
-abbrev pub found_xgem : XgemRead → Found XgemHeader
-found_xgem (XgemFields x) = fields x
-found_xgem XgemUnreadable = unreadable
-found_xgem XgemShort = short
+abbrev pub found_in : {X : Type 0} → Result X ReadError → Found X
+found_in (Ok x) = fields x
+found_in (Err Unreadable) = unreadable
+found_in (Err Short) = short

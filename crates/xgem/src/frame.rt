@@ -1,14 +1,14 @@
 // The XGEM frame: header, payload and padding (clause 9.1).
 ghost use Rattle.std.specs.Prelude.{◌≡◌, ◌-◌, ◌≤◌, ◌++◌, length, replicate};
-ghost use Rattle.hec.specs.Reads.{found64};
 ghost use Rattle.xgem.specs.Layouts.{xgem_of, xgem_fits, xgem_bits, payload_size_lem};
-ghost use Rattle.xgem.specs.Reads.{taken, read_xgem_lem, found_xgem};
+ghost use Rattle.xgem.specs.Reads.{read_xgem_lem, found_in};
 ghost use Rattle.xgem.specs.Writes.{write_xgem_lem, write_xgem_frame_lem, put};
 
-use super::words;
+use super::{ReadError, words};
 use answers::Answer;
-use hec::{Reading64, Word64};
+use hec::Word64;
 use ids::PortId;
+use octets::Number;
 
 // What the padding of a payload holds.
 const PADDING: u8 = 0x55;
@@ -23,13 +23,6 @@ pub struct XgemHeader {
     pub options: u32,
     // The last-fragment mark, LF.
     pub last: bool,
-}
-
-#[derive(Clone, Copy)]
-pub enum XgemRead {
-    Fields(XgemHeader),
-    Unreadable,
-    Short,
 }
 
 impl XgemHeader {
@@ -56,10 +49,10 @@ impl XgemHeader {
     fn data_bits(self) -> u64
         ensures { result ≡ xgem_bits self }
     {
-        let port = self.port;
-        let sized = self.pli as u64 * 4 + self.key as u64;
-        let named = (sized * 0x1_0000 + port.0 as u64) * 0x4_0000 + self.options as u64;
-        named * 2 + words::bit(self.last)
+        let sized = u64::from(self.pli) * 4 + u64::from(self.key);
+        let named = (sized * 0x1_0000 + u64::from(self.port.0)) * 0x4_0000
+            + u64::from(self.options);
+        named * 2 + u64::from(self.last)
     }
 }
 
@@ -73,52 +66,27 @@ pub fn payload_size(pli: u16) -> usize
     if pli < 8 {
         return 8;
     }
-    (pli as usize + 3) / 4 * 4
-}
-
-fn found(read: Reading64) -> XgemRead
-    ensures { found_xgem result ≡ taken xgem_of (found64 read) }
-{
-    match read {
-        Reading64::Word(w) => XgemRead::Fields(XgemHeader::of(w)),
-        Reading64::Unreadable => XgemRead::Unreadable,
-    }
+    (usize::from(pli) + 3) / 4 * 4
 }
 
 // The XGEM header at the start of a slice.
-pub fn read_xgem(s: &[u8]) -> XgemRead
-    ensures { found_xgem result ≡ read_xgem_lem s.now }
+pub fn read_xgem(s: &[u8]) -> Result<XgemHeader, ReadError>
+    ensures { found_in result ≡ read_xgem_lem s.now }
 {
     if s.len() < 8 {
-        return XgemRead::Short;
+        return Err(ReadError::Short);
     }
-    found(hec::read64_by_octets(words::word64(s)))
+    match hec::read64_by_octets(u64::read(s)) {
+        Some(word) => Ok(XgemHeader::of(word)),
+        None => Err(ReadError::Unreadable),
+    }
 }
 
 // The XGEM header of the fields given, at the start of a target.
 pub fn write_xgem(x: XgemHeader, target: &mut [u8]) -> Answer
     ensures { record { answer = result; target = target.new } ≡ write_xgem_lem x target.old }
 {
-    words::write64(x.fits(), x.data_bits(), target)
-}
-
-fn pad(target: &mut [u8], count: usize)
-    requires { count ≤ length target.old }
-    ensures { target.new ≡ put target.old (replicate count 0x55) }
-{
-    let mut i: usize = 0;
-    while i < count {
-        target[i] = PADDING;
-        i += 1;
-    }
-}
-
-fn copy(s: &[u8], target: &mut [u8])
-    requires { length s.now ≤ length target.old }
-    ensures { target.new ≡ put target.old s.now }
-{
-    let n = s.len();
-    target[..n].copy_from_slice(s);
+    words::write(x.fits(), hec::write64(x.data_bits()).bits(), target)
 }
 
 // The payload of an SDU: the SDU and its padding up to the size.
@@ -127,8 +95,8 @@ fn put_payload(sdu: &[u8], size: usize, target: &mut [u8])
     ensures { target.new ≡ put target.old (sdu.now ++ replicate (size - length sdu.now) 0x55) }
 {
     let length = sdu.len();
-    copy(sdu, target);
-    pad(&mut target[length..], size - length);
+    target[..length].copy_from_slice(sdu);
+    target[length..size].fill(PADDING);
 }
 
 // A whole XGEM frame at the start of a target: the header of the fields given, with the SDU's length for its PLI, the SDU
@@ -140,8 +108,10 @@ pub fn write_xgem_frame(x: XgemHeader, sdu: &[u8], target: &mut [u8]) -> Answer
     if 0x4000 <= length {
         return Answer::NotWritten;
     }
-    let mut header = x;
-    header.pli = length as u16;
+    let header = XgemHeader {
+        pli: length as u16,
+        ..x
+    };
     if !header.fits() {
         return Answer::NotWritten;
     }
@@ -149,7 +119,7 @@ pub fn write_xgem_frame(x: XgemHeader, sdu: &[u8], target: &mut [u8]) -> Answer
     if target.len() < 8 + size {
         return Answer::NotWritten;
     }
-    words::put64(target, hec::write64(header.data_bits()).bits());
+    hec::write64(header.data_bits()).bits().put(target);
     put_payload(sdu, size, &mut target[8..]);
     Answer::Done
 }

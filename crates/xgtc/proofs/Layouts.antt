@@ -2,7 +2,7 @@
 -- its fields.
 -- Assumes nothing.
 use mathlib.Core.Path.{◌≡◌, refl, sym, ap, ap₂, ◌∙◌}
-use mathlib.Core.Bool.{Bool, true, ◌&&◌, and-true}
+use mathlib.Core.Bool.{Bool, true, ◌&&◌}
 use Prim.Native.Nat.{ℕ, ◌/◌, ◌^◌, ◌≤◌, ◌<◌}
 use native.Mathlib.Omega.{arith}
 use borrow.Author.Tests.{ltb-true, lt-ltb}
@@ -43,10 +43,6 @@ hlend_again v t =
 
 pub hlend-fits : (v : ℕ) → hlend_fits (hlend_of v) ≡ true
 hlend-fits v = ap₂ ◌&&◌ (lt-ltb (hlend_of v).bwmap (2 ^ 11) (omega arith)) (lt-ltb (hlend_of v).ploam (2 ^ 8) (omega arith))
-
--- the PLOAM count has the width of its type
-pub hlend_typed : (h : Hlend) → h.ploam < 2 ^ 8 → hlend_fits h ≡ ltb h.bwmap (2 ^ 11)
-hlend_typed h l = ap (λ (b : Bool). ltb h.bwmap (2 ^ 11) && b) (lt-ltb h.ploam (2 ^ 8) l) ∙ and-true (ltb h.bwmap (2 ^ 11))
 
 module _ (a : Allocation) (fits : allocation_fits a ≡ true) where
   record AllocationWithin : Type 0 where

@@ -1,15 +1,14 @@
 // The allocation structure: one entry of the bandwidth map (clause 8.1.2).
 ghost use Rattle.std.specs.Prelude.{◌≡◌};
-ghost use Rattle.hec.specs.Reads.{found64};
 ghost use Rattle.xgtc.specs.Layouts.{allocation_of, allocation_fits, allocation_bits};
-ghost use Rattle.xgem.specs.Reads.{taken};
-ghost use Rattle.xgtc.specs.Reads.{read_allocation_lem, found_allocation};
+ghost use Rattle.xgem.specs.Reads.{found_in};
+ghost use Rattle.xgtc.specs.Reads.{read_allocation_lem};
 ghost use Rattle.xgtc.specs.Writes.{write_allocation_lem};
 
 use answers::Answer;
-use hec::{Reading64, Word64};
+use hec::Word64;
 use ids::AllocId;
-use xgem::words;
+use xgem::{ReadError, words};
 
 #[derive(Clone, Copy)]
 pub struct Allocation {
@@ -22,13 +21,6 @@ pub struct Allocation {
     pub grant: u16,
     pub fwi: bool,
     pub profile: u8,
-}
-
-#[derive(Clone, Copy)]
-pub enum AllocationRead {
-    Fields(Allocation),
-    Unreadable,
-    Short,
 }
 
 impl Allocation {
@@ -51,42 +43,35 @@ impl Allocation {
     fn fits(self) -> bool
         ensures { result ≡ allocation_fits self }
     {
-        let alloc = self.alloc;
-        alloc.0 < 0x4000 && self.profile < 4
+        self.alloc.0 < 0x4000 && self.profile < 4
     }
 
     fn data_bits(self) -> u64
         ensures { result ≡ allocation_bits self }
     {
-        let alloc = self.alloc;
-        let marks = (alloc.0 as u64 * 2 + words::bit(self.dbru)) * 2 + words::bit(self.ploamu);
-        let times = (marks * 0x1_0000 + self.start as u64) * 0x1_0000 + self.grant as u64;
-        (times * 2 + words::bit(self.fwi)) * 4 + self.profile as u64
-    }
-}
-
-fn found(read: Reading64) -> AllocationRead
-    ensures { found_allocation result ≡ taken allocation_of (found64 read) }
-{
-    match read {
-        Reading64::Word(w) => AllocationRead::Fields(Allocation::of(w)),
-        Reading64::Unreadable => AllocationRead::Unreadable,
+        let marks = (u64::from(self.alloc.0) * 2 + u64::from(self.dbru)) * 2
+            + u64::from(self.ploamu);
+        let times = (marks * 0x1_0000 + u64::from(self.start)) * 0x1_0000 + u64::from(self.grant);
+        (times * 2 + u64::from(self.fwi)) * 4 + u64::from(self.profile)
     }
 }
 
 // The allocation structure at the start of a slice.
-pub fn read_allocation(s: &[u8]) -> AllocationRead
-    ensures { found_allocation result ≡ read_allocation_lem s.now }
+pub fn read_allocation(s: &[u8]) -> Result<Allocation, ReadError>
+    ensures { found_in result ≡ read_allocation_lem s.now }
 {
     if s.len() < 8 {
-        return AllocationRead::Short;
+        return Err(ReadError::Short);
     }
-    found(hec::read64(words::word_ahead(s)))
+    match hec::read64(words::word_ahead(s)) {
+        Some(word) => Ok(Allocation::of(word)),
+        None => Err(ReadError::Unreadable),
+    }
 }
 
 // The allocation structure of the fields given, at the start of a target.
 pub fn write_allocation(a: Allocation, target: &mut [u8]) -> Answer
     ensures { record { answer = result; target = target.new } ≡ write_allocation_lem a target.old }
 {
-    words::write64(a.fits(), a.data_bits(), target)
+    words::write(a.fits(), hec::write64(a.data_bits()).bits(), target)
 }

@@ -1,15 +1,15 @@
 // HLend: how many allocation structures and PLOAM messages stand in front of the payload (clause 8.1.1).
 ghost use Rattle.std.specs.Prelude.{◌≡◌};
-ghost use Rattle.hec.specs.Reads.{found32};
 ghost use Rattle.xgem.specs.Layouts.{behind};
 ghost use Rattle.xgtc.specs.Layouts.{hlend_of, hlend_fits};
-ghost use Rattle.xgem.specs.Reads.{taken};
-ghost use Rattle.xgtc.specs.Reads.{read_hlend_lem, found_hlend};
+ghost use Rattle.xgem.specs.Reads.{found_in};
+ghost use Rattle.xgtc.specs.Reads.{read_hlend_lem};
 ghost use Rattle.xgtc.specs.Writes.{write_hlend_lem};
 
-use super::words;
 use answers::Answer;
-use hec::{Reading32, Word32};
+use hec::Word32;
+use octets::Number;
+use xgem::{ReadError, words};
 
 #[derive(Clone, Copy)]
 pub struct Hlend {
@@ -17,13 +17,6 @@ pub struct Hlend {
     pub bwmap: u16,
     // The PLOAM count: how many messages.
     pub ploam: u8,
-}
-
-#[derive(Clone, Copy)]
-pub enum HlendRead {
-    Fields(Hlend),
-    Unreadable,
-    Short,
 }
 
 impl Hlend {
@@ -37,31 +30,37 @@ impl Hlend {
             ploam: (w / 0x2000 % 0x100) as u8,
         }
     }
-}
 
-fn found(read: Reading32) -> HlendRead
-    ensures { found_hlend result ≡ taken hlend_of (found32 read) }
-{
-    match read {
-        Reading32::Word(w) => HlendRead::Fields(Hlend::of(w)),
-        Reading32::Unreadable => HlendRead::Unreadable,
+    // The PLOAM count has the width of its type.
+    fn fits(self) -> bool
+        ensures { result ≡ hlend_fits self }
+    {
+        self.bwmap < 0x800
+    }
+
+    fn data_bits(self) -> u32
+        ensures { result ≡ behind self.bwmap 8 self.ploam }
+    {
+        u32::from(self.bwmap) * 0x100 + u32::from(self.ploam)
     }
 }
 
 // HLend at the start of a slice.
-pub fn read_hlend(s: &[u8]) -> HlendRead
-    ensures { found_hlend result ≡ read_hlend_lem s.now }
+pub fn read_hlend(s: &[u8]) -> Result<Hlend, ReadError>
+    ensures { found_in result ≡ read_hlend_lem s.now }
 {
     if s.len() < 4 {
-        return HlendRead::Short;
+        return Err(ReadError::Short);
     }
-    found(hec::read32(words::word32(s)))
+    match hec::read32(u32::read(s)) {
+        Some(word) => Ok(Hlend::of(word)),
+        None => Err(ReadError::Unreadable),
+    }
 }
 
 // HLend of the fields given, at the start of a target.
 pub fn write_hlend(h: Hlend, target: &mut [u8]) -> Answer
     ensures { record { answer = result; target = target.new } ≡ write_hlend_lem h target.old }
 {
-    let fits = h.bwmap < 0x800;
-    words::write32(fits, h.bwmap as u32 * 0x100 + h.ploam as u32, target)
+    words::write(h.fits(), hec::write32(h.data_bits()).bits(), target)
 }

@@ -4,4 +4,3 @@
 
 pub mod allocation;
 pub mod hlend;
-mod words;

@@ -1,22 +1,42 @@
 -- `aes::encipher_one` meets its contract.
-use mathlib.Core.Path.{◌≡◌, ◌∙◌, refl, ap}
-use mathlib.Core.List.{List}
-use Prim.Native.Nat.{ℕ, min}
-use lib.ListN.{replicate}
-use Rattle.aes.specs.OnWords.{cipher_on}
-use Rattle.aes.specs.Blocks.{with_block, block_in, each}
-use Rattle.aes.specs.declared.Words.{Words}
+use mathlib.Core.Path.{◌≡◌, ◌∙◌, refl, sym, ap, ap₂}
+use native.Mathlib.Omega.{arith}
+use Prim.Native.Nat.{ℕ, ◌+◌}
+use native.Mathlib.Numerals.{add-one}
+use Rattle.aes.specs.Cipher.{rcon}
+use Rattle.aes.specs.OnWords.{round_on, last_on, rounds_on, round_key_on, cipher_on}
+use Rattle.aes.proofs.Rounds.{next_constant, next_round_key, no_round_key}
 use Rattle.aes.proofs.encipher_one.Goals as goal
 
--- one block, put first and taken again
-first : (key w : Words) → block_in (each (min 1 8) (λ i x. cipher_on key x) (with_block (replicate 32 0) 0 w)) 0 ≡ cipher_on key w
-first key w = refl
+pub loop-init : goal.loop-init
+unfolding rcon rounds_on
+loop-init c = record { key = no_round_key c.args.key; constant = refl; worked = refl }
+
+pub loop-preserved : goal.loop-preserved
+unfolding rounds_on
+loop-preserved c =
+    let l = c.loop in
+    let key = c.args.key in
+    let k = c.next_key-k in
+    let kept = l.invariant in
+    let ek = next_round_key key l.k k.result l.rc l.counter kept.key kept.constant k.ensures in
+    record {
+      key = ek;
+      constant = next_constant l.rc c.doubled-rc.result l.counter kept.constant c.doubled-rc.ensures;
+      worked =
+          c.round-state.ensures ∙ ap₂ round_on kept.worked (ek ∙ ap (λ (i : ℕ). round_key_on i key) (add-one l.counter))
+          ∙ sym (ap (λ (i : ℕ). rounds_on i key c.add-state.result) (add-one l.counter));
+    }
 
 pub returns : goal.returns
+unfolding cipher_on
 returns c =
-    let a = c.args in
-    let f : ℕ → Words → Words = λ i x. cipher_on a.key x in
-    c.block.ensures
-    ∙ ap (λ (l : List ℕ). block_in l 0)
-    (c.encipher.ensures ∙ ap (each (min 1 8) f) c.put.ensures)
-    ∙ first a.key a.input
+    let l = c.loop in
+    let key = c.args.key in
+    let k = c.next_key in
+    let kept = l.invariant in
+    let nine : l.counter ≡ 9 = omega arith in
+    let ek = next_round_key key l.k k.result l.rc l.counter kept.key kept.constant k.ensures in
+    c.last_round.ensures
+    ∙ ap₂ last_on (kept.worked ∙ ap₂ (λ (i : ℕ) x. rounds_on i key x) nine c.add-state.ensures)
+    (ek ∙ ap (λ (i : ℕ). round_key_on (i + 1) key) nine)

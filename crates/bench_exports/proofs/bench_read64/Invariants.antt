@@ -1,13 +1,7 @@
 -- `bench_exports::bench_read64` meets its contract: each word adds what it reads as.
-use mathlib.Core.Path.{◌≡◌}
-use Prim.Native.Nat.{◌≤◌, ◌-◌}
-use lib.Bits.{bit_xor}
-use lib.ListN.{length, drop}
+use Rattle.std.proofs.Common.{◌≡◌, drop, bit_xor}
 use Rattle.bench_exports.specs.Sums.{read_sum}
 use Rattle.bench_exports.proofs.bench_read64.Given as goal
 
-abbrev pub invariant-loop-i : goal.invariant-loop-i
-invariant-loop-i l = (l.i ≤ length l.words) × (bit_xor l.sum (read_sum 64 (drop l.i l.words)) ≡ read_sum 64 l.words)
-
-abbrev pub decreases-loop-i : goal.decreases-loop-i
-decreases-loop-i l = length l.words - l.i
+abbrev pub invariant-loop-word : goal.invariant-loop-word
+invariant-loop-word l = bit_xor l.sum (read_sum 64 (drop l.word-index l.words)) ≡ read_sum 64 l.words

@@ -1,18 +1,14 @@
 -- `bench_exports::bench_read64_plain` meets its contract: each word adds what it reads as.
-use mathlib.Core.Path.{refl}
-use native.Mathlib.Omega.{arith}
-use Rattle.hec.specs.Reads.{found64}
+use Rattle.std.proofs.Common.{arith}
+use Rattle.hec.specs.Reads.{found_word}
 use Rattle.bench_exports.proofs.Laws.{more, all}
 use Rattle.bench_exports.proofs.bench_read64_plain.Goals as goal
 
-pub loop-i-init : goal.loop-i-init
-loop-i-init c = (omega arith, refl)
-
-pub loop-i-preserved : goal.loop-i-preserved
-loop-i-preserved c =
-    let l = c.loop-i in
+pub loop-word-preserved : goal.loop-word-preserved
+loop-word-preserved c =
+    let l = c.loop-word in
     let words = c.args.words.now in
-    (omega arith, more 64 words l.i l.sum l.invariant.1 _ (found64 c.read64.result) (omega arith) (omega (arith, c.type_inv.words l.i)) (omega arith) c.read64.ensures c.value64-sum.ensures)
+    more 64 words l.word-index l.sum l.invariant _ (found_word c.read64.result) (omega arith) (omega (arith, c.type_inv.words l.word-index)) (omega arith) c.read64.ensures c.value64-sum.ensures
 
 pub returns : goal.returns
-returns c = all 64 c.args.words.now c.loop-i.i c.loop-i.sum c.loop-i.invariant.1 (omega arith)
+returns c = all 64 c.args.words.now c.loop-word.word-index c.loop-word.sum c.loop-word.invariant (omega arith)

@@ -1,5 +1,5 @@
 -- `bwmap::walk_map` meets its contract.
-use mathlib.Core.Path.{◌≡◌, ap}
+use mathlib.Core.Path.{◌≡◌}
 use Prim.Native.Nat.{◌-◌}
 use lib.ListN.{length}
 use Rattle.series.specs.Series.{entry_count}

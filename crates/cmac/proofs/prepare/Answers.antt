@@ -8,11 +8,11 @@ use Rattle.cmac.proofs.prepare.Goals as goal
 
 pub returns : goal.returns
 returns c =
-    let load = c.load-k in
+    let load = c.load-key in
     record {
       made =
-          prepared_of load.result c.encipher_one.result c.doubled-whole.result c.doubled.result
-          c.encipher_one.ensures c.doubled-whole.ensures c.doubled.ensures
+          prepared_of load.result c.encipher_one.result c.doubled-whole.result c.doubled-padded.result
+          c.encipher_one.ensures c.doubled-whole.ensures c.doubled-padded.ensures
           ∙ ap prepared_by load.ensures.made;
       octets = subst Octets load.ensures.back (octets-octets load.result);
     }

@@ -1,13 +1,9 @@
 -- `cmac::tags` meets its contract.
 use mathlib.Core.Path.{◌≡◌}
-use Prim.Native.Nat.{◌-◌, ◌*◌, ◌≤◌}
-use lib.ListN.{length, replicate}
+use lib.ListN.{replicate}
 use Rattle.aes.specs.Blocks.{each}
 use Rattle.cmac.specs.Tags.{chained_by, message_of}
 use Rattle.cmac.proofs.tags.Given as goal
 
 abbrev pub invariant-loop-i : goal.invariant-loop-i
-invariant-loop-i l = (l.i ≤ l.before) × (l.xs ≡ each l.n (λ j x. chained_by l.key.key (message_of l.ms l.size j) l.i) (replicate 32 0)) × (l.n * l.size ≤ length l.ms)
-
-abbrev pub decreases-loop-i : goal.decreases-loop-i
-decreases-loop-i l = l.before - l.i
+invariant-loop-i l = l.xs ≡ each l.n (λ j x. chained_by l.key.key (message_of l.ms l.size j) l.i-counter) (replicate 32 0)

@@ -45,5 +45,5 @@ returns c =
     let a = c.args in
     from-ends a.s a.h (arrived (goal.at.returns c).Start) (buffers (goal.at.returns c).Start)
     c.map_end-map.result c.header_end-end.result c.map_end-map.ensures c.header_end-end.ensures
-    c.plan_bursts-p.result _ _ _ _ c.reply_all-sent.result c.receive_payload-r.result c.with_ports.result c.with_carried-found.result c.receive_all-acted.result c.is_ranging.result c.frame_end-ended.result c.answer_to-answer.result (fitting (goal.at.returns c).Start)
-    c.plan_bursts-p.ensures.0 c.plan_bursts-p.ensures.1 c.reply_all-sent.ensures c.receive_payload-r.ensures c.with_ports.ensures c.with_carried-found.ensures c.receive_all-acted.ensures c.is_ranging.ensures c.frame_end-ended.ensures c.answer_to-answer.ensures
+    c.plan_bursts-p.result _ _ _ _ c.reply_all-sent.result c.receive_payload-r.result c.with_ports.result c.with_carried-found.result c.receive_all-acted.result c.is_ranging.result c.frame_end.result c.answer_to.result (fitting (goal.at.returns c).Start)
+    c.plan_bursts-p.ensures.0 c.plan_bursts-p.ensures.1 c.reply_all-sent.ensures c.receive_payload-r.ensures c.with_ports.ensures c.with_carried-found.ensures c.receive_all-acted.ensures c.is_ranging.ensures c.frame_end.ensures c.answer_to.ensures

@@ -7,5 +7,5 @@ use Rattle.frame.proofs.plan_bursts.Goals as goal
 pub returns : goal.returns
 returns c =
     let a = c.args in
-    let p = planned_fully (own_of a.s) a.map.now a.s.carried a.plan.now c.plan_map.result _ c.requires c.plan_map.ensures in
+    let p = planned_fully (own_of a.s) a.map.now a.s.carried a.plan.now c.plan_map.result _ c.requires (rw c.own_of.ensures at c.plan_map.ensures) in
     (c.plan_of.ensures ∙ p.0, p.1)

@@ -1,8 +1,10 @@
 -- `hec::read32` meets its contract: what 64 bits read as, where the first 32 are 0.
+use Prim.Native.Nat.{ℕ}
 use mathlib.Core.Path.{refl, sym, ap, ◌∙◌, subst}
-use Rattle.hec.specs.Reads.{Reads, word, found64}
+use Rattle.std.specs.Prelude.{Option}
+use Rattle.hec.specs.declared.Word.{Word}
+use Rattle.hec.specs.Reads.{Reads, word, found_word}
 use Rattle.hec.specs.Mends.{sent}
-use Rattle.hec.specs.declared.Reading64.{Reading64}
 use Rattle.hec.proofs.Mending.{clean, mended, short}
 use Rattle.hec.proofs.Steps.{sent_word, not_sent}
 use borrow.Author.Rules.{rules}
@@ -16,17 +18,17 @@ returns-then-s-eq0 c =
 pub returns-then-v-lt4294967296 : goal.returns-then-v-lt4294967296
 returns-then-v-lt4294967296 c =
     let w = c.args.word in
-    subst (Reads 32 w) (sent_word _ _ (ap found64 c.in-Word.is) (search rules))
-    (short w (search rules) (found64 c.mend-read.result) (mended w _ _ _ (search rules) c.syndrome-s.ensures c.flips.ensures c.mend-read.ensures))
+    subst (Reads 32 w) (sent_word _ _ (ap found_word c.in-Some.is) (search rules))
+    (short w (search rules) (found_word c.mend-read.result) (mended w _ _ _ (search rules) c.syndrome-s.ensures c.flips.ensures c.mend-read.ensures))
 
 pub returns-else-v-lt4294967296 : goal.returns-else-v-lt4294967296
 returns-else-v-lt4294967296 c =
     let w = c.args.word in
-    subst (Reads 32 w) (not_sent _ _ (ap found64 c.in-Word.is) (search rules))
-    (short w (search rules) (found64 c.mend-read.result) (mended w _ _ _ (search rules) c.syndrome-s.ensures c.flips.ensures c.mend-read.ensures))
+    subst (Reads 32 w) (not_sent _ _ (ap found_word c.in-Some.is) (search rules))
+    (short w (search rules) (found_word c.mend-read.result) (mended w _ _ _ (search rules) c.syndrome-s.ensures c.flips.ensures c.mend-read.ensures))
 
-pub returns-in-Unreadable : goal.returns-in-Unreadable
-returns-in-Unreadable c =
+pub returns-in-None : goal.returns-in-None
+returns-in-None c =
     let w = c.args.word in
-    subst (Reads 32 w) (ap (λ (x : Reading64). sent (found64 x)) c.in-Unreadable.is)
-    (short w (search rules) (found64 c.mend-read.result) (mended w _ _ _ (search rules) c.syndrome-s.ensures c.flips.ensures c.mend-read.ensures))
+    subst (Reads 32 w) (ap (λ (x : Option (Word ℕ)). sent (found_word x)) c.in-None.is)
+    (short w (search rules) (found_word c.mend-read.result) (mended w _ _ _ (search rules) c.syndrome-s.ensures c.flips.ensures c.mend-read.ensures))

@@ -1,26 +1,29 @@
 -- `integrity::right_at` meets its contract.
-use mathlib.Core.Path.{◌≡◌, ◌∙◌, ap}
-use Prim.Native.Nat.{ℕ, ◌+◌, ◌-◌, ◌*◌, ◌/◌, ◌<◌}
+use mathlib.Core.Path.{◌∙◌, ap}
+use mathlib.Core.List.{List}
+use Prim.Native.Nat.{ℕ}
 use native.Mathlib.Omega.{arith}
 use borrow.Author.Tests.{lt-leb, le-leb}
-use lib.ListN.{length, take, drop}
+use lib.ListN.{length}
 use Rattle.ploam.specs.Layout.{message_at, mic_field}
 use Rattle.integrity.specs.Integrity.{same}
 use Rattle.integrity.proofs.RowByRow.{short_message, whole_message}
 use Rattle.integrity.proofs.right_at.Goals as goal
 
-pub returns-then-messages-place : goal.returns-then-messages-place
-returns-then-messages-place c =
-    let a = c.args in
-    let m = message_at a.messages.now a.place in
-    simp (lt-leb 48 (length m) (short_message a.messages.now a.place c.if-messages-place.true))
+pub has_mic-requires : goal.has_mic-requires
+has_mic-requires c =
+    let found = c.in-Some.ensures in
+    omega (arith, ap length found.1 ∙ whole_message c.args.messages.now c.args.place found.0)
 
-pub returns : goal.returns
-returns c =
+pub returns-in-Some : goal.returns-in-Some
+returns-in-Some c =
     let a = c.args in
     let b = a.messages.now in
-    let m = message_at b a.place in
-    let e : 48 * a.place + 48 - 48 * a.place ≡ 48 = omega arith in
-    let h : a.place < length b / 48 = omega (arith, c.if-messages-place.false) in
-    simp (le-leb 48 (length m) (omega (arith, whole_message b a.place h)))
-    (c.has_mic.ensures ∙ ap (λ (k : ℕ). same (mic_field (take k (drop (48 * a.place) b))) a.mic) e)
+    let found = c.in-Some.ensures in
+    simp (le-leb 48 (length (message_at b a.place)) (omega (arith, whole_message b a.place found.0)))
+    (c.has_mic.ensures ∙ ap (λ (m : List ℕ). same (mic_field m) a.mic) found.1)
+
+pub returns-in-None : goal.returns-in-None
+returns-in-None c =
+    let a = c.args in
+    simp (lt-leb 48 (length (message_at a.messages.now a.place)) (short_message a.messages.now a.place c.in-None.ensures))

@@ -1,10 +1,9 @@
 -- `integrity::rights` meets its contract.
 use mathlib.Core.Path.{◌≡◌, ◌∙◌, refl, sym, ap, subst}
 use mathlib.Core.List.{List}
-use Prim.Native.Nat.{ℕ, min, ◌-◌, ◌*◌, ◌%◌, ◌≤◌, ◌<◌}
+use Prim.Native.Nat.{ℕ, min, ◌*◌, ◌%◌, ◌≤◌, ◌<◌}
 use native.Mathlib.Omega.{arith}
 use lib.ListN.{length, length-set, take}
-use lib.Seq.{length-take-le}
 use Rattle.aes.specs.Cipher.{at}
 use Rattle.aes.specs.Words.{octets_of}
 use Rattle.aes.specs.Blocks.{block_in}
@@ -36,30 +35,6 @@ returns-then-n-eq0 c =
     all_found a.key a.messages.now a.places a.count (λ k. 0) 0 _ refl (sym c.if-n-eq0.true ∙ c.at_most-n.ensures.0)
     (λ k h. absurd (omega arith)) (none_found (λ k. 0))
 
-pub cover_each-requires : goal.cover_each-requires
-cover_each-requires c = (c.at_most-n.ensures.1, omega (arith, c.at_most-n.ensures.1))
-
-pub overflow_mul-end : goal.overflow_mul-end
-overflow_mul-end c = record { fits = omega (arith, c.at_most-n.ensures.1) }
-
-pub slice_bounds-rows-end : goal.slice_bounds-rows-end
-slice_bounds-rows-end c = room (goal.at.slice_bounds-rows-end c).After-cover_each
-
-pub slice_bounds-tags-end : goal.slice_bounds-tags-end
-slice_bounds-tags-end c = sym (length-take-le (c.at_most-n.result * 41) c.cover_each.new.rows (room (goal.at.slice_bounds-tags-end c).After-cover_each))
-
-pub loop-j-init : goal.loop-j-init
-loop-j-init c = (omega arith, refl, none_found (found c.args.messages.now c.args.places c.tags-tags.result))
-
-pub offset_bounds-places-j : goal.offset_bounds-places-j
-offset_bounds-places-j c = record { fits = omega (arith, c.loop-j-test.true, c.at_most-n.ensures.1) }
-
-pub bounds-places-j : goal.bounds-places-j
-bounds-places-j c = omega (arith, c.loop-j-test.true, c.at_most-n.ensures.1)
-
-pub bounds-marks-j : goal.bounds-marks-j
-bounds-marks-j c = omega (arith, c.loop-j-test.true, c.at_most-n.ensures.1)
-
 pub loop-j-preserved : goal.loop-j-preserved
 loop-j-preserved c =
     let l = c.loop-j in
@@ -67,11 +42,10 @@ loop-j-preserved c =
     let f = found a.messages.now a.places c.tags-tags.result in
     let m = message_at a.messages.now (at a.places l.j) in
     let mic = c.first_octets-mic.ensures ∙ ap (λ (w : Words). take 8 (octets_of w)) c.block.ensures in (
-      omega arith,
-      length-set l.marks l.j c.mark_of.result ∙ l.invariant.1,
-      one_found f l.marks l.j c.mark_of.result l.invariant.1 (omega (arith, c.loop-j-test.true, c.at_most-n.ensures.1))
+      length-set l.marks l.j c.mark_of.result ∙ l.invariant.0,
+      one_found f l.marks l.j c.mark_of.result l.invariant.0 (omega (arith, c.loop-j-test.true, c.at_most-n.ensures.1))
           (c.mark_of.ensures ∙ ap mark_of_lem (c.right_at.ensures ∙ ap (λ (x : List ℕ). has_field x m) mic))
-          l.invariant.2,
+          l.invariant.1,
     )
 
 pub returns : goal.returns
@@ -84,9 +58,9 @@ returns c =
     let f = found a.messages.now a.places ts.result in
     let more : 0 < n.result = omega (arith, c.if-n-eq0.false) in
     let e : l.j ≡ n.result = omega arith in
-    all_found a.key a.messages.now a.places a.count f n.result l.marks l.invariant.1 n.ensures.0
+    all_found a.key a.messages.now a.places a.count f n.result l.marks l.invariant.0 n.ensures.0
     (λ k h.
     ap mark_of_lem
     (found_right a.key a.messages.now a.places rows.new.rows ts.result n.result rows.ensures.0 more n.ensures.1 (room (goal.at.returns c).After-cover_each) (tagged (goal.at.returns c).After-loop-j)
     k (block_in ts.result (k % 8)) (take 8 (octets_of (block_in ts.result (k % 8)))) _ h refl refl refl))
-    (subst (λ (k : ℕ). Found f k l.marks) e l.invariant.2)
+    (subst (λ (k : ℕ). Found f k l.marks) e l.invariant.1)

@@ -1,7 +1,7 @@
 -- `integrity::rights` meets its contract.
 use mathlib.Core.Path.{◌≡◌}
 use mathlib.Core.List.{List}
-use Prim.Native.Nat.{ℕ, ◌-◌, ◌%◌, ◌≤◌}
+use Prim.Native.Nat.{ℕ, ◌%◌}
 use lib.ListN.{length, take}
 use Rattle.aes.specs.Cipher.{at}
 use Rattle.aes.specs.Words.{octets_of}
@@ -17,7 +17,4 @@ abbrev pub found : List ℕ → List ℕ → List ℕ → ℕ → ℕ
 found messages places tags k = mark_of_lem (has_field (take 8 (octets_of (block_in tags (k % 8)))) (message_at messages (at places k)))
 
 abbrev pub invariant-loop-j : goal.invariant-loop-j
-invariant-loop-j l = (l.j ≤ l.n) × (length l.marks ≡ 8) × (Found (found l.messages l.places l.tags) l.j l.marks)
-
-abbrev pub decreases-loop-j : goal.decreases-loop-j
-decreases-loop-j l = l.n - l.j
+invariant-loop-j l = (length l.marks ≡ 8) × (Found (found l.messages l.places l.tags) l.j l.marks)

@@ -1,7 +1,7 @@
 -- `messages::receive_each` meets its contract.
 use mathlib.Core.Path.{◌≡◌, refl, sym, ◌∙◌}
 use native.Mathlib.Omega.{arith}
-use Prim.Native.Nat.{◌-◌, ◌/◌}
+use Prim.Native.Nat.{◌/◌}
 use lib.ListN.{length}
 use Rattle.effects.specs.Changes.{applied}
 use Rattle.messages.proofs.Receiving.{each_end}
@@ -25,17 +25,6 @@ settled c =
 
 pub loop-i-init : goal.loop-i-init
 loop-i-init c = (refl, refl, omega arith, omega arith, none_known _ _)
-
-pub considered-c-requires : goal.considered-c-requires
-considered-c-requires c =
-    let l = c.loop-i in
-    record { past = l.invariant.3; there = omega arith; known = l.invariant.4 }
-
-pub overflow_add-i : goal.overflow_add-i
-overflow_add-i c =
-    let h = c.loop-i-test.true in
-    let k = c.loop-i.invariant.2 in
-    record { fits = omega arith }
 
 pub loop-i-smaller : goal.loop-i-smaller
 loop-i-smaller c =

@@ -1,7 +1,6 @@
 -- `mixcolumns::row0` meets its contract, by the rule of the table.
-use mathlib.Core.Path.{◌∙◌}
 use Rattle.mixcolumns.proofs.RowRules.{row0}
 use Rattle.mixcolumns.proofs.row0.Goals as goal
 
 pub returns : goal.returns
-returns c = c.first.ensures ∙ row0 c.args.x
+returns c = row0 c.args.x

@@ -1,7 +1,6 @@
 -- `mixcolumns::row1` meets its contract, by the rule of the table.
-use mathlib.Core.Path.{◌∙◌}
 use Rattle.mixcolumns.proofs.RowRules.{row1}
 use Rattle.mixcolumns.proofs.row1.Goals as goal
 
 pub returns : goal.returns
-returns c = c.second.ensures ∙ row1 c.args.x
+returns c = row1 c.args.x

@@ -1,7 +1,6 @@
 -- `mixcolumns::row2` meets its contract, by the rule of the table.
-use mathlib.Core.Path.{◌∙◌}
 use Rattle.mixcolumns.proofs.RowRules.{row2}
 use Rattle.mixcolumns.proofs.row2.Goals as goal
 
 pub returns : goal.returns
-returns c = c.third.ensures ∙ row2 c.args.x
+returns c = row2 c.args.x

@@ -1,7 +1,6 @@
 -- `mixcolumns::row3` meets its contract, by the rule of the table.
-use mathlib.Core.Path.{◌∙◌}
 use Rattle.mixcolumns.proofs.RowRules.{row3}
 use Rattle.mixcolumns.proofs.row3.Goals as goal
 
 pub returns : goal.returns
-returns c = c.fourth.ensures ∙ row3 c.args.x
+returns c = row3 c.args.x

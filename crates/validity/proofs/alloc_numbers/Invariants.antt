@@ -1,7 +1,5 @@
 -- `validity::alloc_numbers` meets its contract.
-use mathlib.Core.Path.{◌≡◌}
-use Prim.Native.Nat.{◌-◌, ◌≤◌}
-use lib.ListN.{length, drop}
+use Rattle.std.proofs.Common.{◌≡◌, drop, length}
 use lib.Seq.{sets}
 use Rattle.ids.specs.declared.AllocId.{AllocId}
 use Rattle.ids.specs.Ids.{assignable_alloc}
@@ -10,7 +8,4 @@ use Rattle.validity.proofs.Places.{below}
 use Rattle.validity.proofs.alloc_numbers.Given as goal
 
 abbrev pub invariant-loop-i : goal.invariant-loop-i
-invariant-loop-i l = (l.i ≤ 16) × (length l.ids ≡ 16) × (length l.numbers ≡ 16) × (sets l.numbers l.i (numbers_from (below l.n) assignable_alloc (λ (a : AllocId). a.0) l.i (drop l.i l.ids)) ≡ alloc_numbers_lem l.n l.ids)
-
-abbrev pub decreases-loop-i : goal.decreases-loop-i
-decreases-loop-i l = 16 - l.i
+invariant-loop-i l = (length l.numbers ≡ 16) × (sets l.numbers l.i (numbers_from (below l.n) assignable_alloc (λ (a : AllocId). a.0) l.i (drop l.i l.id-items)) ≡ alloc_numbers_lem l.n l.fn.ids)

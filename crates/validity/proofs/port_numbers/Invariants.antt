@@ -1,7 +1,5 @@
 -- `validity::port_numbers` meets its contract.
-use mathlib.Core.Path.{◌≡◌}
-use Prim.Native.Nat.{◌-◌, ◌≤◌}
-use lib.ListN.{length, drop}
+use Rattle.std.proofs.Common.{◌≡◌, drop, length}
 use lib.Seq.{sets}
 use Rattle.ids.specs.declared.PortId.{PortId}
 use Rattle.ids.specs.Ids.{assignable_port}
@@ -10,7 +8,4 @@ use Rattle.validity.proofs.Places.{taken}
 use Rattle.validity.proofs.port_numbers.Given as goal
 
 abbrev pub invariant-loop-i : goal.invariant-loop-i
-invariant-loop-i l = (l.i ≤ 16) × (length l.ids ≡ 16) × (length l.numbers ≡ 16) × (sets l.numbers l.i (numbers_from taken assignable_port (λ (a : PortId). a.0) l.i (drop l.i l.ids)) ≡ port_numbers_lem l.ids)
-
-abbrev pub decreases-loop-i : goal.decreases-loop-i
-decreases-loop-i l = 16 - l.i
+invariant-loop-i l = (length l.numbers ≡ 16) × (sets l.numbers l.i (numbers_from taken assignable_port (λ (a : PortId). a.0) l.i (drop l.i l.id-items)) ≡ port_numbers_lem l.fn.ids)

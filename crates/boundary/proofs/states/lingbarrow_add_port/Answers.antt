@@ -1,18 +1,14 @@
 -- `boundary::states::lingbarrow_add_port` meets its contract.
 use Rattle.station.specs.declared.Station.{Station}
 use Rattle.boundary.specs.Calls.{add_on}
-use Rattle.boundary.proofs.Laws.{is-held, is_unreadable, is-short, call-held, call_unreadable, call_short}
+use Rattle.boundary.proofs.Laws.{is-held, is_unread, call-held, call_unread}
 use Rattle.host.specs.Host.{after_add}
 use Rattle.boundary.proofs.states.lingbarrow_add_port.Goals as goal
 
-pub returns-in-Held : goal.returns-in-Held
+pub returns-in-Ok : goal.returns-in-Ok
 unfolding add_on
-returns-in-Held c = call-held c.args.state.now (λ (s : Station). after_add s (record { 0 = c.args.port })) c.read_state-read.result.station c.add_port.result _ _ (is-held c.args.state.now c.read_state-read.result c.read_state-read.ensures c.in-Held.is) c.add_port.ensures c.settle.ensures.0 c.settle.ensures.1
+returns-in-Ok c = call-held c.args.state.now (λ (s : Station). after_add s (record { 0 = c.args.port })) c.in-Ok.s c.add_port.result _ _ (is-held c.args.state.now c.read_state.result c.read_state.ensures _ c.in-Ok.is) c.add_port.ensures c.settle.ensures.0 c.settle.ensures.1
 
-pub returns-in-Unreadable : goal.returns-in-Unreadable
+pub returns-in-Err : goal.returns-in-Err
 unfolding add_on
-returns-in-Unreadable c = call_unreadable c.args.state.now (λ (s : Station). after_add s (record { 0 = c.args.port })) (is_unreadable c.args.state.now c.read_state-read.result c.read_state-read.ensures c.in-Unreadable.is)
-
-pub returns-in-Short : goal.returns-in-Short
-unfolding add_on
-returns-in-Short c = call_short c.args.state.now (λ (s : Station). after_add s (record { 0 = c.args.port })) (is-short c.args.state.now c.read_state-read.result c.read_state-read.ensures c.in-Short.is)
+returns-in-Err c = call_unread c.args.state.now (λ (s : Station). after_add s (record { 0 = c.args.port })) _ _ (is_unread c.args.state.now c.read_state.result c.read_state.ensures _ c.in-Err.is) c.unread.ensures

@@ -1,6 +1,6 @@
 -- `bwmap::names::name_entries` meets its contract.
 use mathlib.Core.Path.{◌≡◌}
-use Prim.Native.Nat.{◌-◌, ◌≤◌}
+use Prim.Native.Nat.{◌≤◌}
 use lib.ListN.{length}
 use lib.Seq.{sets}
 use Rattle.series.specs.Series.{entry_count}
@@ -10,6 +10,3 @@ use Rattle.bwmap.proofs.names.name_entries.Given as goal
 
 abbrev pub invariant-loop-i : goal.invariant-loop-i
 invariant-loop-i l = (l.i ≤ entry_count l.map) × (length l.names ≡ length l.initial.names) × Steady l.w l.i × (named_from l.own l.map l.names l.i l.w ≡ sets l.initial.names 0 (names_of l.own l.map l.carried))
-
-abbrev pub decreases-loop-i : goal.decreases-loop-i
-decreases-loop-i l = l.n - l.i

@@ -5,9 +5,6 @@ use Rattle.bwmap.specs.Courses.{ended}
 use Rattle.bwmap.proofs.Courses.{head-next, more-next, excess-next, apart_next}
 use Rattle.bwmap.proofs.names.name_entry.Goals as goal
 
-pub joined-requires : goal.joined-requires
-joined-requires c = (c.requires.2.small, sym c.goes_on.ensures ∙ c.if-goes_on.true)
-
 pub returns-then-goes_on : goal.returns-then-goes_on
 returns-then-goes_on c =
     let a = c.args in
@@ -16,7 +13,7 @@ returns-then-goes_on c =
 pub returns-in-Head : goal.returns-in-Head
 returns-in-Head c =
     let a = c.args in
-    head-next a.own a.map.now a.names.now a.i a.w c.read_at.result c.requires.0 c.read_at.ensures c.requires.2 _ _ c.in-Head.h c.in-Head.is _ _ c.end_series-next.ensures.0 c.opened.ensures.0 c.opened.ensures.1 refl c.end_series-next.ensures.1
+    head-next a.own a.map.now a.names.now a.i a.w c.read_at.result c.requires.0 c.read_at.ensures c.requires.2 _ _ c.in-Head.h c.in-Head.is _ _ c.end_series-around.ensures.0 c.opened.ensures.0 c.opened.ensures.1 refl c.end_series-around.ensures.1
 
 pub returns-else-goes_on : goal.returns-else-goes_on
 returns-else-goes_on c =

@@ -14,7 +14,7 @@ returns-then-is_planned c =
     let a = c.args in
     (moved a.around a.s c.judge-verdict.result c.judge-verdict.ensures c.requires.1 (sym c.is_planned.ensures ∙ c.if-is_planned.true), series-named a.around a.s c.judge-verdict.result c.judge-verdict.ensures a.names.now _ a.i c.number.result c.number.ensures c.fill.ensures)
 
-pub returns : goal.returns
-returns c =
+pub returns-else-is_planned : goal.returns-else-is_planned
+returns-else-is_planned c =
     let a = c.args in
     (unmoved a.around a.s c.judge-verdict.result c.judge-verdict.ensures c.requires.1 (sym c.is_planned.ensures ∙ c.if-is_planned.false), series-named a.around a.s c.judge-verdict.result c.judge-verdict.ensures a.names.now _ a.i c.number.result c.number.ensures c.fill.ensures)

@@ -1,27 +1,16 @@
 -- `bwmap::records::write_more` meets its contract.
-use mathlib.Core.Path.{◌∙◌, refl}
-use Prim.Native.Nat.{◌+◌, ◌-◌, ◌*◌}
+use mathlib.Core.Path.{◌∙◌}
+use Prim.Native.Nat.{◌+◌, ◌*◌}
 use native.Mathlib.Omega.{arith}
-use native.Mathlib.Nat.{add-zero, sub-zero}
-use borrow.Author.Rules.{rules}
 use Rattle.plan.proofs.Placed.{placed_whole}
 use Rattle.bwmap.proofs.Laws.{written_one, written_all, write_step, write_done}
 use Rattle.bwmap.proofs.records.write_more.Goals as goal
-
-pub loop-k-init : goal.loop-k-init
-loop-k-init c = (search rules, refl, rw (add-zero c.args.at, add-zero c.args.from, sub-zero))
-
-pub write_record-requires : goal.write_record-requires
-write_record-requires c = omega (arith, c.loop-k.invariant.1, c.requires.1, c.loop-k-test.true)
 
 pub loop-k-preserved : goal.loop-k-preserved
 loop-k-preserved c =
     let a = c.args in
     let l = c.loop-k in
     (omega arith, c.write_record.auto.plan ∙ l.invariant.1, write_step a.at l.k a.h _ _ _ l.plan _ _ _ (written_one a.map.now (a.from + l.k) (a.from + (l.k + 1)) l.k a.count c.loop-k-test.true (omega arith)) c.allocation_at-a.ensures c.more_flags.ensures (c.write_record.ensures ∙ placed_whole l.plan (a.at + 4 * l.k) c.allocation_at-a.result c.more_flags.result a.h.start (omega (arith, l.invariant.1, c.requires.1, c.loop-k-test.true))) ∙ l.invariant.2)
-
-pub shape_of-plan : goal.shape_of-plan
-shape_of-plan c = c.loop-k.invariant.1
 
 pub returns : goal.returns
 returns c =

@@ -9,6 +9,3 @@ use Rattle.bwmap.proofs.records.write_more.Given as goal
 
 abbrev pub invariant-loop-k : goal.invariant-loop-k
 invariant-loop-k l = (l.k ≤ l.count) × (length l.plan ≡ length l.initial.plan) × (sets l.plan (l.at + 4 * l.k) (more_numbers l.h (allocations_from l.map (l.from + l.k) (l.count - l.k))) ≡ sets l.initial.plan l.at (more_numbers l.h (allocations_from l.map l.from l.count)))
-
-abbrev pub decreases-loop-k : goal.decreases-loop-k
-decreases-loop-k l = l.count - l.k

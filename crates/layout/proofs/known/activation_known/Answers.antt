@@ -11,19 +11,19 @@ pub returns-then-number : goal.returns-then-number
 returns-then-number c =
     let b = c.args.c.now in
     let m = c.number.result in
-    let n = c.number8-number.result in
-    let l = c.number32-left.result in
+    let n = c.field_at-number.result in
+    let l = c.field_at-left.result in
     let a = c.activation_by-a.result in
     sym (ap (λ (s : Bool). s && eqb (time_left_lem a) l) (ne_eqb m n c.if-number.true))
-    ∙ activation_tests b n l m (time_left_lem a) a c.number8-number.ensures c.number32-left.ensures c.activation_by-a.ensures c.number.ensures refl
+    ∙ activation_tests b n l m (time_left_lem a) a c.field_at-number.ensures c.field_at-left.ensures c.activation_by-a.ensures c.number.ensures refl
 
 pub returns : goal.returns
 returns c =
     let b = c.args.c.now in
     let m = c.number.result in
-    let n = c.number8-number.result in
-    let l = c.number32-left.result in
+    let n = c.field_at-number.result in
+    let l = c.field_at-left.result in
     let t = c.time_left.result in
     let a = c.activation_by-a.result in
     sym (ap (λ (s : Bool). s && eqb t l) (eq-eqb m n c.if-number.false))
-    ∙ activation_tests b n l m t a c.number8-number.ensures c.number32-left.ensures c.activation_by-a.ensures c.number.ensures c.time_left.ensures
+    ∙ activation_tests b n l m t a c.field_at-number.ensures c.field_at-left.ensures c.activation_by-a.ensures c.number.ensures c.time_left.ensures

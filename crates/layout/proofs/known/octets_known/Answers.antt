@@ -6,7 +6,8 @@ use lib.ListN.{take}
 use Rattle.integrity.specs.Integrity.{same}
 use Rattle.layout.specs.Offsets.{state_bytes}
 use Rattle.layout.specs.Layout.{encoded, shown}
-use Rattle.layout.specs.KnownOctets.{octets_known_lem}
+use borrow.Author.Rules.{rules}
+use Rattle.layout.specs.KnownOctets.{answer_known_lem, mark_known_lem, octets_known_lem}
 use Rattle.layout.proofs.KnownOctets.{octets-known}
 use Rattle.layout.proofs.known.octets_known.Goals.{After-shared_slice_known-1}
 use Rattle.layout.proofs.known.octets_known.Goals as goal
@@ -23,8 +24,8 @@ returns-then-not-activation_known c = sym (rw (eq-eqb _ _ c.if-version-ne-STATE_
 pub returns-then-not-mark_known : goal.returns-then-not-mark_known
 returns-then-not-mark_known c = sym (rw (eq-eqb _ _ c.if-version-ne-STATE_VERSION.false, sym c.activation_known.ensures ∙ c.if-not-activation_known.false, sym c.mark_known.ensures ∙ c.if-not-mark_known.true) at (whole (goal.at.returns-then-not-mark_known c).After-shared_slice_known-1))
 
-pub returns-then-not-answers_known : goal.returns-then-not-answers_known
-returns-then-not-answers_known c = sym (rw (eq-eqb _ _ c.if-version-ne-STATE_VERSION.false, sym c.activation_known.ensures ∙ c.if-not-activation_known.false, sym c.mark_known.ensures ∙ c.if-not-mark_known.false, sym c.answers_known.ensures ∙ c.if-not-answers_known.true) at (whole (goal.at.returns-then-not-answers_known c).After-shared_slice_known-1))
+pub returns-then-not-each_known : goal.returns-then-not-each_known
+returns-then-not-each_known c = sym (rw (eq-eqb _ _ c.if-version-ne-STATE_VERSION.false, sym c.activation_known.ensures ∙ c.if-not-activation_known.false, sym c.mark_known.ensures ∙ c.if-not-mark_known.false, sym (c.each_known.ensures answer_known_lem (λ x r k. search rules)) ∙ c.if-not-each_known.true) at (whole (goal.at.returns-then-not-each_known c).After-shared_slice_known-1))
 
 pub returns : goal.returns
-returns c = sym (rw (eq-eqb _ _ c.if-version-ne-STATE_VERSION.false, sym c.activation_known.ensures ∙ c.if-not-activation_known.false, sym c.mark_known.ensures ∙ c.if-not-mark_known.false, sym c.answers_known.ensures ∙ c.if-not-answers_known.false, sym c.marks_known.ensures) at (whole (goal.at.returns c).After-shared_slice_known-1))
+returns c = sym (rw (eq-eqb _ _ c.if-version-ne-STATE_VERSION.false, sym c.activation_known.ensures ∙ c.if-not-activation_known.false, sym c.mark_known.ensures ∙ c.if-not-mark_known.false, sym (c.each_known.ensures answer_known_lem (λ x r k. search rules)) ∙ c.if-not-each_known.false, sym (c.each_known-2.ensures mark_known_lem (λ x r k. search rules))) at (whole (goal.at.returns c).After-shared_slice_known-1))

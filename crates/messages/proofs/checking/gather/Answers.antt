@@ -1,11 +1,11 @@
 -- `messages::checking::gather` meets its contract.
-use mathlib.Core.Path.{◌≡◌, ◌∙◌, refl, sym, ap}
+use mathlib.Core.Path.{◌≡◌, ◌∙◌, sym, ap}
 use Prim.Native.Nat.{ℕ, ◌+◌, ◌-◌, ◌*◌}
 use native.Mathlib.Omega.{arith}
 use lib.ListN.{length, take, drop, length-set}
 use Rattle.messages.specs.Checking.{by_usual_lem, Gathered}
-use Rattle.messages.proofs.Verdicts.{alone, joined, not-joined}
-use Rattle.messages.proofs.checking.gather.Goals.{Joined-marks-p-eq-NOT_ASKED, then-marks-p-eq-NOT_ASKED+then-joins, then-marks-p-eq-NOT_ASKED+else-joins, else-marks-p-eq-NOT_ASKED}
+use Rattle.messages.proofs.Verdicts.{joined, not-joined}
+use Rattle.messages.proofs.checking.gather.Goals.{Joined-marks-p-eq-NOT_ASKED, then-marks-p-eq-NOT_ASKED+then-joins, else-marks-p-eq-NOT_ASKED}
 use Rattle.messages.proofs.checking.gather.Goals as goal
 
 -- whether the message joins or not, it is a group
@@ -23,24 +23,11 @@ gathered c =
             (ap (λ (k : ℕ). by_usual_lem (take k (drop (48 * l.p) b))) (sym e) ∙ w.joins.ensures w.if-joins.true),
         ap length w.places-is ∙ simp length-set l.invariant.1,
       )
-      | then-marks-p-eq-NOT_ASKED+else-joins w ↦
-          (not-joined a.usual b a.base a.i l.places l.count l.invariant.1 l.invariant.0 _ _ w.places-is w.count-is, ap length w.places-is ∙ l.invariant.1)
       | else-marks-p-eq-NOT_ASKED w ↦
           (not-joined a.usual b a.base a.i l.places l.count l.invariant.1 l.invariant.0 _ _ w.places-is w.count-is, ap length w.places-is ∙ l.invariant.1)
     ]
-
-pub loop-p-init : goal.loop-p-init
-loop-p-init c =
-    let a = c.args in
-    (alone a.usual a.messages.now a.base a.i c.requires.0 c.requires.2, refl, c.end_of-end.ensures.1, c.end_of-end.ensures.0, omega arith)
-
-pub returns-then-count-ge-SIDE_BY_SIDE : goal.returns-then-count-ge-SIDE_BY_SIDE
-returns-then-count-ge-SIDE_BY_SIDE c = c.loop-p.invariant.0
 
 pub loop-p-preserved : goal.loop-p-preserved
 loop-p-preserved c =
     let l = c.loop-p.invariant in
     ((gathered (goal.at.loop-p-preserved c).Joined-marks-p-eq-NOT_ASKED).0, (gathered (goal.at.loop-p-preserved c).Joined-marks-p-eq-NOT_ASKED).1, l.2, l.3, omega arith)
-
-pub returns : goal.returns
-returns c = c.loop-p.invariant.0

@@ -15,5 +15,5 @@ returns c =
     let long = length-partial a.memory.now a.slot a.have (omega (arith, c.requires)) (omega (arith, c.requires)) (omega (arith, c.requires)) in
     c.lay_body.ensures
     ∙ ap (λ (x : List ℕ). put x (a.at + 4 + a.have) a.body.now)
-    (c.lay_partial.ensures ∙ ap (λ (x : List ℕ). put x (a.at + 4) part) c.lay_at.ensures)
+    (c.lay_partial.ensures ∙ ap (λ (x : List ℕ). put x (a.at + 4) part) (c.lay_at.ensures ∙ ap (put a.target.now a.at) (rw (c.put-2.ensures, c.put.ensures))))
     ∙ delivery-put a.target.now a.at _ a.have a.port part a.body.now (omega (arith, c.requires)) long refl

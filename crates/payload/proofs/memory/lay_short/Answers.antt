@@ -1,64 +1,67 @@
 -- `payload::memory::lay_short` meets its contract: what was laid so far is the front of the slice.
-use mathlib.Core.Path.{◌≡◌, refl, sym, ap, ◌∙◌}
-use mathlib.Core.List.{List}
-use Prim.Native.Nat.{ℕ, ◌+◌, ◌-◌, ◌≤◌}
+use mathlib.Core.Path.{◌≡◌, sym, ap, ap₂, ◌∙◌}
+use mathlib.Core.List.{List, []}
+use Prim.Native.Nat.{ℕ, ◌+◌, ◌/◌, ◌*◌}
 use native.Mathlib.Omega.{arith}
-use lib.ListN.{length, take, drop, length-take, length-drop}
+use lib.ListN.{length, get_or, take, drop, length-drop}
 use lib.Seq.{length-take-le}
 use Rattle.payload.specs.Memory.{put}
-use Rattle.payload.proofs.Put.{length-put, put_none, put-eight, put_rest}
-use Rattle.payload.proofs.memory.lay_short.Goals.{After-lay_at-2}
+use Rattle.payload.proofs.Put.{put_none, put-eight, put_rest, eight_at}
+use Rattle.payload.proofs.memory.lay_short.Goals.{After-octets-in-loop-eight-1}
 use Rattle.payload.proofs.memory.lay_short.Goals as goal
 
--- what is left of the slice
-left : (s : List ℕ) (i : ℕ) → length (take (length s - i) (drop i s)) ≡ length s - i
-left s i = omega (arith, length-take (length s - i) (drop i s), length-drop i s)
+-- the octets of a turn
+turn : (c : After-octets-in-loop-eight-1) → get_or c.as_chunks.result.0.now c.loop-eight.eight-index [] ≡ take 8 (drop (8 * c.loop-eight.eight-index) c.args.s.now)
+turn c =
+    let i = c.loop-eight.eight-index in
+    let s = c.args.s.now in
+    ap (λ (l : List (List ℕ)). get_or l i []) c.as_chunks.ensures.front ∙ eight_at (length s / 8) i s (omega (arith, c.as_chunks.ensures.front_len))
 
--- the rest is laid behind the eights
-all : (c : After-lay_at-2) → let a = c.args in c.lay_at-2.new.target ≡ put a.target.now a.at a.s.now
-all c =
-    let l = c.loop-i in
-    let a = c.args in
-    put_rest a.target.now a.s.now a.at l.i l.target l.invariant.1 l.invariant.0 (omega (arith, l.invariant.2)) _ c.lay_at-2.ensures
+eight : (c : After-octets-in-loop-eight-1) → length (get_or c.as_chunks.result.0.now c.loop-eight.eight-index []) ≡ 8
+eight c =
+    let i = c.loop-eight.eight-index in
+    let s = c.args.s.now in
+    ap length (turn c) ∙ length-take-le 8 (drop (8 * i) s) (omega (arith, length-drop (8 * i) s, c.as_chunks.ensures.front_len))
 
-pub loop-i-init : goal.loop-i-init
-loop-i-init c = (omega arith, sym (put_none c.args.target.now c.args.at), c.requires, refl, omega arith)
+pub loop-eight-init : goal.loop-eight-init
+loop-eight-init c = (omega arith, sym (put_none c.args.target.now c.args.at))
 
-pub eight-octets-requires : goal.eight-octets-requires
-eight-octets-requires c = omega (arith, left c.args.s.now c.loop-i.i)
+pub slice_bounds-lay_at-end : goal.slice_bounds-lay_at-end
+slice_bounds-lay_at-end c = sym (eight c)
 
 pub lay_at-requires : goal.lay_at-requires
-lay_at-requires c =
-    let l = c.loop-i in
-    let a = c.args in
-    let o : length c.eight-octets.result ≡ 8 = ap length c.eight-octets.ensures ∙ length-take-le 8 (take (length a.s.now - l.i) (drop l.i a.s.now)) (omega (arith, left a.s.now l.i, c.loop-i-test.true)) in
-    let h : a.at + l.i + length c.eight-octets.result ≤ length l.target = omega (arith, o, l.invariant, c.loop-i-test.true) in
-    h
+lay_at-requires c = omega (arith, eight c, c.as_chunks.ensures.front_len, c.loop-eight.auto.target)
 
-pub loop-i-preserved : goal.loop-i-preserved
-loop-i-preserved c =
-    let l = c.loop-i in
+pub overflow_add-to : goal.overflow_add-to
+overflow_add-to c = omega (arith, c.as_chunks.ensures.front_len, c.well_formed)
+
+pub loop-eight-preserved : goal.loop-eight-preserved
+loop-eight-preserved c =
+    let l = c.loop-eight in
     let a = c.args in
-    let t = c.loop-i-test.true in
-    let e = put-eight a.target.now a.s.now a.at l.i l.target l.invariant.1 l.invariant.0 (omega (arith, l.invariant.2)) _ c.eight-octets.result c.lay_at.ensures c.eight-octets.ensures in (
-      omega (arith, t, l.invariant.0),
-      e,
-      l.invariant.2,
-      ap length e ∙ length-put a.target.now a.at (take (l.i + 8) a.s.now) (omega (arith, t, l.invariant.0, l.invariant.2, length-take-le (l.i + 8) a.s.now (omega (arith, t, l.invariant.0)))),
-      l.invariant.4,
+    let s = a.s.now in
+    let t = a.target.now in
+    let i = 8 * l.eight-index in
+    let n : 8 * (l.eight-index + 1) ≡ i + 8 = omega arith in
+    let to : l.to ≡ a.at + i = omega arith in (
+      omega arith,
+      put-eight t s a.at i l.target l.invariant.1 (omega (arith, c.as_chunks.ensures.front_len)) (omega arith) _ _
+          (c.lay_at.ensures ∙ ap (λ (k : ℕ). put l.target k (get_or c.as_chunks.result.0.now l.eight-index [])) to)
+          (turn (goal.at.loop-eight-preserved c).After-octets-in-loop-eight-1)
+          ∙ ap (λ (k : ℕ). put t a.at (take k s)) (sym n),
     )
 
 pub lay_at-requires-2 : goal.lay_at-requires-2
-lay_at-requires-2 c =
-    let l = c.loop-i in
-    let a = c.args in
-    let h : a.at + l.i + length (take (length a.s.now - l.i) (drop l.i a.s.now)) ≤ length l.target = omega (arith, left a.s.now l.i, l.invariant) in
-    h
-
-pub shape_of-target : goal.shape_of-target
-shape_of-target c =
-    let a = c.args in
-    ap length (all (goal.at.shape_of-target c).After-lay_at-2) ∙ length-put a.target.now a.at a.s.now c.requires
+lay_at-requires-2 c = omega (arith, c.as_chunks.ensures.front_len, c.as_chunks.ensures.back_len, c.loop-eight.auto.target)
 
 pub returns : goal.returns
-returns c = all (goal.at.returns c).After-lay_at-2
+returns c =
+    let l = c.loop-eight in
+    let a = c.args in
+    let s = a.s.now in
+    let t = a.target.now in
+    let i = 8 * l.eight-index in
+    let to : l.to ≡ a.at + i = omega arith in
+    let n : length s / 8 * 8 ≡ i = omega (arith, c.as_chunks.ensures.front_len) in
+    put_rest t s a.at i l.target l.invariant.1 (omega (arith, c.as_chunks.ensures.front_len)) (omega arith) _
+    (c.lay_at-2.ensures ∙ ap₂ (λ (k : ℕ) (r : List ℕ). put l.target k r) to (c.as_chunks.ensures.back ∙ ap (λ (k : ℕ). drop k s) n))

@@ -1,22 +1,24 @@
--- `payload::walk::all_within` meets its contract: what is still to test says what all say.
-use mathlib.Core.Path.{refl, sym, ap, ◌∙◌}
-use Prim.Native.Nat.{ℕ, ◌-◌}
-use native.Mathlib.Numerals.{add-one}
-use native.Mathlib.Omega.{arith}
+-- `payload::walk::all_within` meets its contract.
+use mathlib.Core.Path.{◌≡◌, refl, ap, ◌∙◌}
+use mathlib.Core.Bool.{Bool, ◌&&◌}
+use mathlib.Core.List.{List, [], ◌∷◌}
+use Prim.Native.Nat.{ℕ}
 use borrow.Author.Rules.{rules}
-use lib.ListN.{length, drop}
+use lib.Dec.{leb}
+use Rattle.std.proofs.Common.{tests}
+use Rattle.std.specs.List.{list_all}
+use Rattle.std.proofs.lemmas.Iterator.{YieldsList-from_slice}
+use Rattle.std.proofs.lemmas.Iterator.Search.{all_from_yields_List}
+use Rattle.ports.specs.Limits.{slot_bytes}
 use Rattle.payload.specs.Walk.{all_within_lem}
-use Rattle.payload.proofs.Lengths.{within_hit, within_miss, within_end}
 use Rattle.payload.proofs.walk.all_within.Goals as goal
 
-pub loop-i-init : goal.loop-i-init
-loop-i-init c = (omega arith, search rules, refl)
-
-pub returns-then-lengths-i-gt-SLOT_BYTES : goal.returns-then-lengths-i-gt-SLOT_BYTES
-returns-then-lengths-i-gt-SLOT_BYTES c = sym (within_hit c.args.lengths c.loop-i.i (omega arith) c.if-lengths-i-gt-SLOT_BYTES.true) ∙ c.loop-i.invariant.2
-
-pub loop-i-preserved : goal.loop-i-preserved
-loop-i-preserved c = (omega arith, c.loop-i.invariant.1, ap (λ (k : ℕ). all_within_lem (drop k c.args.lengths)) (add-one c.loop-i.i) ∙ sym (within_miss c.args.lengths c.loop-i.i (omega arith) c.if-lengths-i-gt-SLOT_BYTES.false) ∙ c.loop-i.invariant.2)
+-- the test of each, by recursion
+each : (l : List ℕ) → list_all (λ (n : ℕ). leb n slot_bytes) l ≡ all_within_lem l
+each [] = refl
+each (n ∷ l) = ap (λ (b : Bool). leb n slot_bytes && b) (each l)
 
 pub returns : goal.returns
-returns c = sym (within_end c.args.lengths c.loop-i.i (omega arith)) ∙ c.loop-i.invariant.2
+returns c =
+    let l = c.args.lengths in
+    all_from_yields_List (λ (n : ℕ). leb n slot_bytes) _ _ _ c.all.ensures.ran (YieldsList-from_slice l cc) (λ x b q k. search (rules, tests)) ∙ each l

@@ -4,8 +4,8 @@ use lib.ListN.{length}
 use Rattle.stretches.proofs.Listing.{Behind}
 use Rattle.stretches.proofs.headers.is_lost.Given as goal
 
-abbrev pub invariant-loop-bytes : goal.invariant-loop-bytes
-invariant-loop-bytes l = Behind l.frame l.begins l.at × (length l.frame < 2 ^ 64)
+abbrev pub invariant-loop-x : goal.invariant-loop-x
+invariant-loop-x l = Behind l.frame l.begins l.at × (length l.frame < 2 ^ 64)
 
-abbrev pub decreases-loop-bytes : goal.decreases-loop-bytes
-decreases-loop-bytes l = length l.frame - l.at
+abbrev pub decreases-loop-x : goal.decreases-loop-x
+decreases-loop-x l = length l.frame - l.at

@@ -16,8 +16,7 @@ showing p memory plan replies deliveries text =
 
 -- what is still to come shows what all of it showed from the start
 abbrev pub invariant-loop-i : goal.invariant-loop-i
-invariant-loop-i l = (l.i ≤ l.count)
-    × (l.p.place ≤ 126 * l.i)
+invariant-loop-i l = (l.p.place ≤ 126 * l.i)
     × (shown_from (showing l.p l.memory l.plan l.replies l.deliveries l.text) (records (l.count - l.i) (drop (l.i * 1024) l.input))
     ≡ shown_from (showing l.initial.p l.initial.memory l.initial.plan l.initial.replies l.initial.deliveries l.initial.text) (records l.count l.input))
     × (length l.memory ≡ length l.initial.memory)
@@ -25,6 +24,3 @@ invariant-loop-i l = (l.i ≤ l.count)
     × (length l.replies ≡ length l.initial.replies)
     × (length l.deliveries ≡ length l.initial.deliveries)
     × (length l.text ≡ length l.initial.text)
-
-abbrev pub decreases-loop-i : goal.decreases-loop-i
-decreases-loop-i l = l.count - l.i

@@ -1,5 +1,5 @@
 -- `trace::records::print_outcome` meets its contract.
-use Rattle.std.proofs.Common.{◌+◌, length, ap, ◌∙◌}
+use Rattle.std.proofs.Common.{◌+◌, length, ap, ◌∙◌, refl}
 use Rattle.payload.specs.Memory.{put}
 use Rattle.trace.proofs.Steps.{line_made}
 use Rattle.trace.proofs.records.print_outcome.Goals as goal
@@ -14,21 +14,7 @@ pub returns : goal.returns
 returns c =
     let a = c.args in
     let put-line = c.put_line-next in
-    let e =
-    line_made
-    a.run.number
-    a.o
-    a.c
-    _
-    _
-    _
-    _
-    _
-    (c.wide.ensures ∙ c.number.ensures)
-    (c.wide-2.ensures ∙ c.number-2.ensures)
-    c.long.ensures
-    c.long-2.ensures
-    c.long-3.ensures in (
+    let e = line_made a.run.number a.o a.c _ _ _ _ _ (c.from.ensures ∙ c.number.ensures) (c.from-2.ensures ∙ c.number-2.ensures) refl refl refl in (
       c.onward.ensures,
       put-line.ensures.0 ∙ ap (put a.text.now a.place) e,
       put-line.ensures.1 ∙ ap (λ l. a.place + length l) e,

@@ -1,9 +1,0 @@
--- `trace::blocks::move_to_front` meets its contract.
-use Rattle.std.proofs.Common.{◌≡◌, ◌-◌, ◌≤◌, ◌++◌, length, take, drop}
-use Rattle.trace.proofs.blocks.move_to_front.Given as goal
-
-abbrev pub invariant-loop-i : goal.invariant-loop-i
-invariant-loop-i l = (l.i ≤ l.n) × (l.input ≡ take l.i (drop l.from l.initial.input) ++ drop l.i l.initial.input) × (length l.input ≡ length l.initial.input)
-
-abbrev pub decreases-loop-i : goal.decreases-loop-i
-decreases-loop-i l = l.n - l.i

@@ -1,9 +1,0 @@
--- `validity::count_fits` meets its contract.
-use borrow.Author.Tests.{le-leb, lt-leb}
-use Rattle.validity.proofs.count_fits.Goals as goal
-
-pub returns-then-left-lt1 : goal.returns-then-left-lt1
-returns-then-left-lt1 c = rw (lt-leb _ _ c.if-left-lt1.true)
-
-pub returns : goal.returns
-returns c = rw (le-leb _ _ c.if-left-lt1.false)
