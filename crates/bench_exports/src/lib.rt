@@ -7,28 +7,7 @@ mod payload_walk;
 mod stretch_search;
 
 ghost use Rattle.std.specs.Prelude.{◌≡◌};
-ghost use Rattle.bench_exports.specs.Sums.{read_sum, value_of};
-ghost use Rattle.hec.specs.Reads.{found_word};
-
-use hec::{Word32, Word64};
-
-fn value32(r: Option<Word32>) -> u32
-    ensures { result ≡ value_of (found_word r) }
-{
-    match r {
-        Some(w) => w.bits(),
-        None => 0,
-    }
-}
-
-fn value64(r: Option<Word64>) -> u64
-    ensures { result ≡ value_of (found_word r) }
-{
-    match r {
-        Some(w) => w.bits(),
-        None => 0,
-    }
-}
+ghost use Rattle.bench_exports.specs.Sums.{read_sum};
 
 // The sum, without carry, of what the words read as.
 #[unsafe(no_mangle)]
@@ -37,7 +16,7 @@ pub extern "C" fn bench_read32(words: &[u32]) -> u32
 {
     let mut sum = 0;
     for word in words {
-        sum ^= value32(hec::read32(*word));
+        sum ^= hec::read32(*word).map_or(0, |w| w.bits());
     }
     sum
 }
@@ -49,7 +28,7 @@ pub extern "C" fn bench_read64(words: &[u64]) -> u64
 {
     let mut sum = 0;
     for word in words {
-        sum ^= value64(hec::read64_by_octets(*word));
+        sum ^= hec::read64_by_octets(*word).map_or(0, |w| w.bits());
     }
     sum
 }
@@ -61,7 +40,7 @@ pub extern "C" fn bench_read64_plain(words: &[u64]) -> u64
 {
     let mut sum = 0;
     for word in words {
-        sum ^= value64(hec::read64(*word));
+        sum ^= hec::read64(*word).map_or(0, |w| w.bits());
     }
     sum
 }

@@ -43,10 +43,7 @@ fn bench_own() -> Own
 fn records_of(answer: Option<Plan>) -> usize
     ensures { result ≡ records_of_lem answer }
 {
-    match answer {
-        Some(p) => p.records,
-        None => 0,
-    }
+    answer.map_or(0, |p| p.records)
 }
 
 // The records planned.

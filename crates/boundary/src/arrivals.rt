@@ -37,8 +37,7 @@ fn answer_by(o: Opening) -> u8
     ensures { result ≡ answer_number (answer_by_lem o) }
 {
     match o {
-        Opening::Refused(answer) => answer.number(),
-        Opening::Unread(answer) => answer.number(),
+        Opening::Refused(answer) | Opening::Unread(answer) => answer.number(),
         Opening::Opened(_) => DONE,
     }
 }

@@ -22,14 +22,10 @@ fn written_number(answer: Answer) -> u8
 pub fn lingbarrow_write_hlend(bwmap: u32, ploam: u32, target: &mut [u8]) -> u8
     ensures { ◌≡◌ {A = Target} (record { answer = result; target = target.new }) (hlend_in bwmap ploam target.old) }
 {
-    if 0xffff < bwmap || 0xff < ploam {
+    let (Ok(bwmap), Ok(ploam)) = (u16::try_from(bwmap), u8::try_from(ploam)) else {
         return NOT_WRITTEN;
-    }
-    let h = Hlend {
-        bwmap: bwmap as u16,
-        ploam: ploam as u8,
     };
-    written_number(xgtc::hlend::write_hlend(h, target))
+    written_number(xgtc::hlend::write_hlend(Hlend { bwmap, ploam }, target))
 }
 
 #[tactic(auto, unfolding(crate::specs::Writers::allocation_in))]
@@ -45,24 +41,25 @@ pub fn lingbarrow_write_allocation(
 ) -> u8
     ensures { ◌≡◌ {A = Target} (record { answer = result; target = target.new }) (allocation_in alloc dbru ploamu start grant fwi profile target.old) }
 {
-    if 2 <= dbru
-        || 2 <= ploamu
-        || 2 <= fwi
-        || 0xffff < alloc
-        || 0xffff < start
-        || 0xffff < grant
-        || 0xff < profile
-    {
+    if 2 <= dbru || 2 <= ploamu || 2 <= fwi {
         return NOT_WRITTEN;
     }
+    let (Ok(alloc), Ok(start), Ok(grant), Ok(profile)) = (
+        u16::try_from(alloc),
+        u16::try_from(start),
+        u16::try_from(grant),
+        u8::try_from(profile),
+    ) else {
+        return NOT_WRITTEN;
+    };
     let a = Allocation {
-        alloc: AllocId(alloc as u16),
+        alloc: AllocId(alloc),
         dbru: dbru == 1,
         ploamu: ploamu == 1,
-        start: start as u16,
-        grant: grant as u16,
+        start,
+        grant,
         fwi: fwi == 1,
-        profile: profile as u8,
+        profile,
     };
     written_number(xgtc::allocation::write_allocation(a, target))
 }
@@ -78,14 +75,17 @@ pub fn lingbarrow_write_xgem_frame(
 ) -> u8
     ensures { ◌≡◌ {A = Target} (record { answer = result; target = target.new }) (xgem_frame_in key port options last sdu.now target.old) }
 {
-    if 2 <= last || 0xff < key || 0xffff < port {
+    if 2 <= last {
         return NOT_WRITTEN;
     }
+    let (Ok(key), Ok(port)) = (u8::try_from(key), u16::try_from(port)) else {
+        return NOT_WRITTEN;
+    };
     let x = XgemHeader {
         pli: 0,
-        key: key as u8,
-        port: PortId(port as u16),
-        options: options,
+        key,
+        port: PortId(port),
+        options,
         last: last == 1,
     };
     written_number(xgem::write_xgem_frame(x, sdu, target))

@@ -6,25 +6,22 @@ use native.Mathlib.Omega.{arith}
 use mathlib.Core.Path.{◌≡◌, ◌∙◌, refl, sym, ap}
 use mathlib.Core.Bool.{Bool, true, false, cond, not}
 use mathlib.Core.List.{List, [], ◌∷◌, ◌++◌}
-use borrow.Author.Tests.{leb-true}
-use lib.Dec.{leb}
 use lib.ListN.{length, get_or, take, drop}
 use lib.Seq.{take_all}
 use Rattle.ids.specs.declared.PortId.{PortId}
 use Rattle.ids.specs.Ids.{management_port_lem}
-use Rattle.xgem.specs.Reads.{Found, fields, unreadable, short}
 use Rattle.xgtc.specs.declared.hlend.Hlend.{Hlend}
 use Rattle.xgtc.specs.Reads.{read_hlend_lem}
 use Rattle.station.specs.declared.Station.{Station}
 use Rattle.answers.specs.declared.Answer.{Answer}
-use Rattle.answers.specs.declared.Answer.TheVariants.{Done, StateOutOfRange, FrameLengthUnfit, BufferTooShort, HeaderTooLong}
+use Rattle.answers.specs.declared.Answer.TheVariants.{Done, StateOutOfRange, FrameLengthUnfit, BufferTooShort}
 use Rattle.station.specs.States.{is_operating_lem}
 use Rattle.validity.specs.Ranges.{in_range}
 use Rattle.payload.specs.Memory.{put}
 use Rattle.payload.proofs.Put.{put-after}
 use Rattle.stretches.specs.declared.Extent.{Extent}
 use Rattle.stretches.specs.declared.Placed.{Placed}
-use Rattle.stretches.specs.Stretch.{no_extent, extents_of, lost_in, stretch_of, numbers, room_in, Listed, listing, list_of}
+use Rattle.stretches.specs.Stretch.{no_extent, extents_of, lost_in, stretch_of, numbers, room_in, Listed, list_of}
 use Rattle.stretches.proofs.Listing.{length-numbers}
 use Rattle.stretches.proofs.Few.{stretches-few}
 use Rattle.downstream.specs.declared.Opening.{Opening}
@@ -33,8 +30,7 @@ use Rattle.downstream.specs.Lengths.{length_fits_lem}
 use Rattle.downstream.specs.Partitions.{header_end_lem}
 use Rattle.downstream.specs.Opening.{by_hlend_lem, opening}
 use Rattle.engine.specs.declared.stretching.StretchPlace.{StretchPlace}
-use Rattle.engine.specs.declared.stretching.StretchPlaces.{StretchPlaces}
-use Rattle.engine.specs.Stretch.{empty, answer_if_lem, told, place_in, place_by, stretch_place_lem, PlacesLeft, no_places, all_places, places_in_lem, places_fit, places_by, stretch_places_lem}
+use Rattle.engine.specs.Stretch.{empty, answer_if_lem, place_in, place_by, stretch_place_lem, PlacesLeft, no_places, all_places, places_in_lem, places_fit, places_by, stretch_places_lem}
 use Rattle.engine.specs.Each.{EachStretch}
 
 -- ---- the list has room for all of them

@@ -1,9 +1,9 @@
 -- The payload leaves the ports in range.
 -- Assumes nothing.
-use Prim.Native.Nat.{ℕ, zero, suc, ◌+◌, ◌-◌, ◌≤◌, ◌<◌}
+use Prim.Native.Nat.{ℕ, suc, ◌+◌, ◌-◌, ◌≤◌, ◌<◌}
 use native.Mathlib.Omega.{arith}
 use mathlib.Core.Path.{◌≡◌, ◌∙◌, refl, sym, ap, subst}
-use mathlib.Core.Bool.{Bool, true, false, not, cond, ◌&&◌, ◌||◌, false≢true}
+use mathlib.Core.Bool.{Bool, true, false, not, cond, ◌||◌, false≢true}
 use mathlib.Core.List.{List, [], ◌∷◌}
 use lib.Dec.{eqb, leb, ltb}
 use lib.ListN.{length, get_or, set, length-set}
@@ -15,7 +15,7 @@ use Rattle.ids.specs.Ids.{assignable_port, same_port}
 use Rattle.ports.specs.declared.Ports.{Ports}
 use Rattle.ports.specs.Limits.{added_ports, slots, slot_bytes, sdu_bytes}
 use Rattle.ids.specs.Places.{Below, place_from}
-use Rattle.ports.specs.Ports.{no_port, ports_of, drop_one_lem, drop_all_lem, appended, delivered}
+use Rattle.ports.specs.Ports.{no_port, ports_of, drop_one_lem, appended, delivered}
 use Rattle.validity.specs.Ranges.{ports_fit_lem, empty_slot, partial_fits, slot_fits, partials_fit_lem}
 use Rattle.validity.proofs.Tests.{both}
 use Rattle.validity.proofs.Every.{every_get, every_make}

@@ -16,7 +16,7 @@ use Rattle.xgem.specs.Reads.{Found, fields, unreadable, short, taken}
 use Rattle.xgtc.specs.Reads.{read_hlend_lem}
 use Rattle.station.specs.declared.Station.{Station}
 use Rattle.answers.specs.declared.Answer.{Answer}
-use Rattle.answers.specs.declared.Answer.TheVariants.{Done, StateOutOfRange, FrameLengthUnfit, BufferTooShort, HlendUnreadable, HeaderTooLong, DelineationLost}
+use Rattle.answers.specs.declared.Answer.TheVariants.{Done, StateOutOfRange, FrameLengthUnfit, BufferTooShort, HeaderTooLong, DelineationLost}
 use Rattle.answers.specs.Answers.{answer_number}
 use Rattle.station.specs.States.{is_operating_lem}
 use Rattle.validity.specs.Ranges.{in_range}

@@ -28,7 +28,7 @@ use Rattle.payload.proofs.Walks.{frame-inside, parse-done, parse_lost, parse-nex
 use Rattle.payload.proofs.Steps.{ready_less}
 use Rattle.payload.proofs.Fit.{ready}
 use Rattle.payload.proofs.Counts.{asked, counts_true}
-use Rattle.payload.specs.Appends.{appends_of, laid, InSlots}
+use Rattle.payload.specs.Appends.{appends_of, laid}
 use Rattle.payload.proofs.Appends.{memory-laid, appends_in}
 use Rattle.downstream.specs.Partitions.{header_end_lem, payload_of}
 use Rattle.frame.specs.Given.{Arrival, Lent}

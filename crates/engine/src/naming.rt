@@ -46,8 +46,7 @@ pub fn why_dark(s: Station, frame: &[u8], names: &mut [u8]) -> Named
     let valid = validity::in_range(s);
     let room = MOST_STRUCTURES <= names.len();
     match downstream::open(valid, frame, room) {
-        Opening::Refused(answer) => unnamed(answer),
-        Opening::Unread(answer) => unnamed(answer),
+        Opening::Refused(answer) | Opening::Unread(answer) => unnamed(answer),
         Opening::Opened(h) => named_in(s, h, frame, names),
     }
 }

@@ -68,8 +68,7 @@ pub fn stretch_place(s: Station, frame: &[u8], k: usize) -> StretchPlace
 {
     let valid = validity::in_range(s);
     match downstream::open(valid, frame, true) {
-        Opening::Refused(answer) => empty(answer),
-        Opening::Unread(answer) => empty(answer),
+        Opening::Refused(answer) | Opening::Unread(answer) => empty(answer),
         Opening::Opened(h) => place_in(s, h, frame, k),
     }
 }
@@ -116,8 +115,7 @@ pub fn stretch_places(s: Station, frame: &[u8], places: &mut [usize]) -> Stretch
     let valid = validity::in_range(s);
     let room = frame.len() / BYTES_A_NUMBER <= places.len();
     match downstream::open(valid, frame, room) {
-        Opening::Refused(answer) => nothing(answer),
-        Opening::Unread(answer) => nothing(answer),
+        Opening::Refused(answer) | Opening::Unread(answer) => nothing(answer),
         Opening::Opened(h) => places_in(s, h, frame, places),
     }
 }

@@ -13,22 +13,16 @@ use station::{Outcome, Station};
 fn is_done(answer: Answer) -> bool
     ensures { result ≡ done answer }
 {
-    answer.number() == 0
+    matches!(answer, Answer::Done)
 }
 
 // Refused, the call leaves the station as it was.
 fn settle(answer: Answer, was: Station, next: Station) -> Outcome
     ensures { result ≡ outcome answer was next }
 {
-    if is_done(answer) {
-        return Outcome {
-            answer,
-            station: next,
-        };
-    }
     Outcome {
         answer,
-        station: was,
+        station: if is_done(answer) { next } else { was },
     }
 }
 

@@ -1,6 +1,7 @@
 -- `bench_exports::bench_read64` meets its contract: each word adds what it reads as.
-use Rattle.std.proofs.Common.{arith}
+use Rattle.std.proofs.Common.{◌≡◌, arith, rules}
 use Rattle.hec.specs.Reads.{found_word}
+use Rattle.bench_exports.specs.Sums.{value_of}
 use Rattle.bench_exports.proofs.Laws.{more, all}
 use Rattle.bench_exports.proofs.bench_read64.Goals as goal
 
@@ -8,7 +9,8 @@ pub loop-word-preserved : goal.loop-word-preserved
 loop-word-preserved c =
     let l = c.loop-word in
     let words = c.args.words.now in
-    more 64 words l.word-index l.sum l.invariant _ (found_word c.read64_by_octets.result) (omega arith) (omega (arith, c.type_inv.words l.word-index)) (omega arith) c.read64_by_octets.ensures c.value64-sum.ensures
+    let found : c.map_or-sum.result ≡ value_of (found_word c.read64_by_octets.result) = search rules in
+    more 64 words l.word-index l.sum l.invariant _ (found_word c.read64_by_octets.result) (omega arith) (omega (arith, c.type_inv.words l.word-index)) (omega arith) c.read64_by_octets.ensures found
 
 pub returns : goal.returns
 returns c = all 64 c.args.words.now c.loop-word.word-index c.loop-word.sum c.loop-word.invariant (omega arith)

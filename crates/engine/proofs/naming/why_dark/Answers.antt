@@ -1,4 +1,5 @@
 -- `engine::naming::why_dark` meets its contract: a frame is open where the list has room for all names.
+use mathlib.Core.Logic.{⊎_elim}
 use mathlib.Core.Path.{◌≡◌, ◌∙◌, sym, ap}
 use borrow.Author.Tests.{leb-true}
 use Rattle.downstream.specs.declared.Opening.{Opening}
@@ -32,12 +33,9 @@ named_in-requires c =
 pub returns-in-Refused : goal.returns-in-Refused
 returns-in-Refused c =
     let a = c.args in
-    by (goal.at.returns-in-Refused c).After-open _ c.in-Refused.is _ (ap {B = NamesLeft} (λ (x : Named). record { found = x; names = a.names.now }) c.unnamed.ensures)
-
-pub returns-in-Unread : goal.returns-in-Unread
-returns-in-Unread c =
-    let a = c.args in
-    by (goal.at.returns-in-Unread c).After-open _ c.in-Unread.is _ (ap {B = NamesLeft} (λ (x : Named). record { found = x; names = a.names.now }) c.unnamed-in-Unread.ensures)
+    let q = ap {B = NamesLeft} (λ (x : Named). record { found = x; names = a.names.now }) c.unnamed.ensures in
+    let at = (goal.at.returns-in-Refused c).After-open in
+    ⊎_elim (λ e. by at _ e _ q) (λ e. by at _ e _ q) c.in-Refused.is
 
 pub returns-in-Opened : goal.returns-in-Opened
 returns-in-Opened c = by (goal.at.returns-in-Opened c).After-open _ c.in-Opened.is _ c.named_in.ensures

@@ -2,7 +2,7 @@
 use mathlib.Core.Path.{◌∙◌, sym, ap}
 use Rattle.answers.specs.declared.Answer.{Answer}
 use Rattle.engine.specs.declared.stretching.StretchPlace.{StretchPlace}
-use Rattle.engine.specs.Stretch.{empty, place_in}
+use Rattle.engine.specs.Stretch.{place_in}
 use Rattle.engine.proofs.Stretches.{placed}
 use Rattle.engine.proofs.stretching.place_in.Goals as goal
 
