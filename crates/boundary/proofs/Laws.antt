@@ -11,7 +11,6 @@ use lib.Seq.{take-length}
 use borrow.Author.Tests.{le-leb, lt-leb}
 use Rattle.xgem.specs.Reads.{Found, fields, found_in}
 use Rattle.xgem.specs.Writes as writes
-use Rattle.answers.specs.declared.Answer.{Answer}
 use Rattle.station.specs.declared.Station.{Station}
 use Rattle.answers.specs.declared.Answer.TheVariants.{Done}
 use Rattle.answers.specs.Answers.{answer_number}
@@ -35,7 +34,6 @@ use Rattle.layout.specs.Layout.{read_of, decoded, stored}
 use Rattle.layout.proofs.RoundTrips.{read_stored}
 use Rattle.boundary.specs.Calls.{StateLeft, by, unread_answer, asked, in_range_on, key_left}
 use Rattle.boundary.specs.Frames.{BuffersLeft, PlaceLeft, answer_by_lem, opened_by, counted, after_frame, refused_frame, frame_by, placed, place_by}
-use Rattle.boundary.specs.Writers.{Target, written}
 
 module _ (b : List ℕ) (r : Result Station ReadError) (e : r ≡ read_of b) where
   pub is-held : (s : Station) → r ≡ Ok s → decoded b ≡ fields s
@@ -157,10 +155,3 @@ module _ (b f : List ℕ) (k : ℕ) (place : List ℕ) where
       by_reason : (y : ReadError) → placed (answer_number (unread_answer y)) place 0 0 ≡ place_by (found_in (Err y)) f k place
       by_reason Unreadable = refl
       by_reason Short = refl
-
--- ---- the writers
-
-pub write_as : (l : writes.WriteLeft) (w : Answer) (x : List ℕ) (n : ℕ) → ◌≡◌ {A = writes.WriteLeft} (record { answer = w; target = x }) l → n ≡ answer_number w → ◌≡◌ {A = Target} (record { answer = n; target = x }) (written l)
-write_as l w x n e en =
-    let made : ◌≡◌ {A = Target} (record { answer = n; target = x }) (written (record { answer = w; target = x })) = λ j. record { answer = en j; target = x } in
-    made ∙ ap written e
