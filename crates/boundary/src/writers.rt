@@ -44,12 +44,10 @@ pub fn lingbarrow_write_allocation(
     if 2 <= dbru || 2 <= ploamu || 2 <= fwi {
         return NOT_WRITTEN;
     }
-    let (Ok(alloc), Ok(start), Ok(grant), Ok(profile)) = (
-        u16::try_from(alloc),
-        u16::try_from(start),
-        u16::try_from(grant),
-        u8::try_from(profile),
-    ) else {
+    let (Ok(alloc), Ok(start)) = (u16::try_from(alloc), u16::try_from(start)) else {
+        return NOT_WRITTEN;
+    };
+    let (Ok(grant), Ok(profile)) = (u16::try_from(grant), u8::try_from(profile)) else {
         return NOT_WRITTEN;
     };
     let a = Allocation {

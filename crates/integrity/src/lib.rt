@@ -53,7 +53,7 @@ fn cover(code: u8, m: &[u8], rows: &mut [u8], at: usize)
     ensures { rows.new ≡ paste rows.old at (code ∷ take covered_octets m.now) row_octets }
 {
     rows[at] = code;
-    rows[at + 1..at + ROW_OCTETS].copy_from_slice(&m[..COVERED_OCTETS]);
+    rows[at + 1..at + 1 + COVERED_OCTETS].copy_from_slice(&m[..COVERED_OCTETS]);
 }
 
 fn with_code(code: u8, m: &[u8]) -> [u8; 41]
@@ -84,7 +84,7 @@ fn has_mic(m: &[u8], mic: [u8; 8]) -> bool
     requires { message_octets ≤ length m.now }
     ensures { result ≡ same (mic_field m.now) mic }
 {
-    &m[COVERED_OCTETS..MESSAGE_OCTETS] == mic.as_slice()
+    &m[COVERED_OCTETS..COVERED_OCTETS + mic.len()] == mic.as_slice()
 }
 
 pub fn mic_right(key: Prepared, direction: Direction, m: &[u8]) -> bool

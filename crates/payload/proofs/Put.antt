@@ -2,13 +2,28 @@
 -- Assumes nothing.
 use mathlib.Core.Path.{◌≡◌, refl, sym, ap, ◌∙◌}
 use Prim.Native.Nat.{ℕ, suc, zero, ◌+◌, ◌-◌, ◌*◌, ◌≤◌, ◌<◌}
-use native.Mathlib.Nat.{add-zero}
+use native.Mathlib.Nat.{add-zero, zero-add}
 use native.Mathlib.Omega.{arith}
 use mathlib.Core.List.{List, [], ◌++◌, append_assoc}
 use lib.ListN.{length, get_or, take, drop, length-append, length-drop, take-append-drop}
 use lib.Seq.{take_at, drop_at, take-add, take-append-le, drop-append-add, drop-append-le, drop-drop, length-take-le}
 use Rattle.std.specs.Simd.{first_chunks}
 use Rattle.payload.specs.Memory.{put}
+
+-- the rest of a list, in two pieces
+drop_seam : (n k : ℕ) (l : List ℕ) → n ≤ k → k ≤ length l → drop n (take k l) ++ drop k l ≡ drop n l
+drop_seam n k l h g =
+    let e : length (take k l) ≡ k = length-take-le k l g in
+    sym (drop-append-le n (take k l) (drop k l) (omega arith)) ∙ ap (drop n) (take-append-drop k l)
+
+-- what stands in d after a part of it, k bytes from index a, was lent and came back with s laid over its front
+pub part-put : (d s : List ℕ) (a k : ℕ) → length s ≤ k → a + k ≤ length d
+    → take a d ++ (put (take k (drop a d)) 0 s ++ drop k (drop a d)) ≡ put d a s
+unfolding put
+part-put d s a k h g =
+    let e : k ≤ length (drop a d) = simp length-drop (omega arith) in
+    ap (λ n. take a d ++ ((s ++ drop n (take k (drop a d))) ++ drop k (drop a d))) (zero-add (length s))
+    ∙ ap (λ l. take a d ++ l) (append_assoc s _ _ ∙ ap (λ l. s ++ l) (drop_seam (length s) k (drop a d) h e ∙ drop-drop (length s) a d))
 
 -- the list is as long as it was
 pub length-put : (d : List ℕ) (a : ℕ) (s : List ℕ) → a + length s ≤ length d → length (put d a s) ≡ length d

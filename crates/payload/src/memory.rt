@@ -58,13 +58,15 @@ fn lay_partial(target: &mut [u8], at: usize, memory: &[u8], slot: usize, have: u
     lay_at(target, at, &memory[from..to]);
 }
 
-// More bytes behind those of a slot's unfinished SDU.
+// More bytes behind those of a slot's unfinished SDU: the slot's unused end, and nothing behind it, is lent for them.
 #[tactic(auto, unfolding(crate::specs::Memory::extended))]
 fn extend(memory: &mut [u8], slot: usize, have: usize, body: &[u8])
     requires { (slot < slots) × (have + length body.now ≤ slot_bytes) × (memory_bytes ≤ length memory.old) }
     ensures { memory.new ≡ extended memory.old slot have body.now }
 {
-    lay_at(memory, slot * SLOT_BYTES + have, body);
+    let from = slot * SLOT_BYTES + have;
+    let to = slot * SLOT_BYTES + SLOT_BYTES;
+    lay_at(&mut memory[from..to], 0, body);
 }
 
 // A delivery at a place: Port-ID, length, the bytes of the partial and those of the last fragment.

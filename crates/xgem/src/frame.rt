@@ -82,11 +82,15 @@ pub fn read_xgem(s: &[u8]) -> Result<XgemHeader, ReadError>
     }
 }
 
-// The XGEM header of the fields given, at the start of a target.
+// The XGEM header of the fields given, at the start of a target. No word is made of what is refused.
 pub fn write_xgem(x: XgemHeader, target: &mut [u8]) -> Answer
     ensures { record { answer = result; target = target.new } ≡ write_xgem_lem x target.old }
 {
-    words::write(x.fits(), hec::write64(x.data_bits()).bits(), target)
+    let fits = x.fits();
+    if !fits || target.len() < 8 {
+        return Answer::NotWritten;
+    }
+    words::write(fits, hec::write64(x.data_bits()).bits(), target)
 }
 
 // The payload of an SDU: the SDU and its padding up to the size.

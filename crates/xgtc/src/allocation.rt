@@ -69,9 +69,13 @@ pub fn read_allocation(s: &[u8]) -> Result<Allocation, ReadError>
     }
 }
 
-// The allocation structure of the fields given, at the start of a target.
+// The allocation structure of the fields given, at the start of a target. No word is made of what is refused.
 pub fn write_allocation(a: Allocation, target: &mut [u8]) -> Answer
     ensures { record { answer = result; target = target.new } ≡ write_allocation_lem a target.old }
 {
-    words::write(a.fits(), hec::write64(a.data_bits()).bits(), target)
+    let fits = a.fits();
+    if !fits || target.len() < 8 {
+        return Answer::NotWritten;
+    }
+    words::write(fits, hec::write64(a.data_bits()).bits(), target)
 }

@@ -58,9 +58,13 @@ pub fn read_hlend(s: &[u8]) -> Result<Hlend, ReadError>
     }
 }
 
-// HLend of the fields given, at the start of a target.
+// HLend of the fields given, at the start of a target. No word is made of what is refused.
 pub fn write_hlend(h: Hlend, target: &mut [u8]) -> Answer
     ensures { record { answer = result; target = target.new } ≡ write_hlend_lem h target.old }
 {
-    words::write(h.fits(), hec::write32(h.data_bits()).bits(), target)
+    let fits = h.fits();
+    if !fits || target.len() < 4 {
+        return Answer::NotWritten;
+    }
+    words::write(fits, hec::write32(h.data_bits()).bits(), target)
 }

@@ -13,6 +13,6 @@ copy_from_slice-requires c = simp (length-take, length-drop, length-set) (omega 
 pub returns : goal.returns
 returns c =
     let a = c.args in
-    put_mid-paste (a.at + 1) (a.at + 41 - (a.at + 1)) (set a.rows.now a.at a.code) c.copy_from_slice.new.self (take 40 a.m.now) 40 c.copy_from_slice.ensures.after
+    put_mid-paste (a.at + 1) (a.at + 1 + 40 - (a.at + 1)) (set a.rows.now a.at a.code) c.copy_from_slice.new.self (take 40 a.m.now) 40 c.copy_from_slice.ensures.after
     (omega arith) (simp length-take (omega (arith, c.requires.0)))
     ∙ code_first a.rows.now a.m.now a.code a.at c.requires.1

@@ -18,6 +18,6 @@ returns c =
     let t = c.args.target.now in
     let d = c.data_bits.result in
     c.write.ensures
-    ∙ ap (λ (f : Bool). wrote f (octets 8 c.bits.result) t) c.fits.ensures
+    ∙ ap (λ (f : Bool). wrote f (octets 8 c.bits.result) t) c.fits-fits.ensures
     ∙ fitted_word (xgem_fits x) 8 51 (xgem_bits x) _ t (xgem_lt x)
     (c.bits.ensures ∙ is_protected 51 (d % 2 ^ 51) _ (omega arith) (omega arith) c.write64.ensures ∙ ap (λ (b : ℕ). protected (b % 2 ^ 51)) c.data_bits.ensures)

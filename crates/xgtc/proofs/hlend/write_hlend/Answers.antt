@@ -19,6 +19,6 @@ returns c =
     let t = c.args.target.now in
     let d = c.data_bits.result in
     c.write.ensures
-    ∙ ap (λ (f : Bool). wrote f (octets 4 c.bits.result) t) c.fits.ensures
+    ∙ ap (λ (f : Bool). wrote f (octets 4 c.bits.result) t) c.fits-fits.ensures
     ∙ fitted_word (hlend_fits h) 4 19 (behind h.bwmap 8 h.ploam) _ t (hlend_lt h)
     (c.bits.ensures ∙ is_protected 19 (d % 2 ^ 19) _ (omega arith) (omega arith) c.write32.ensures ∙ ap (λ (b : ℕ). protected (b % 2 ^ 19)) c.data_bits.ensures)
