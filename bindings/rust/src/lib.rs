@@ -136,7 +136,7 @@ pub mod stack {
     pub const STRETCH: usize = 632;
     pub const STRETCHES: usize = 888;
     pub const WHY_DARK: usize = 984;
-    pub const WRITE_HLEND: usize = 40;
+    pub const WRITE_HLEND: usize = 24;
     pub const WRITE_ALLOCATION: usize = 80;
     pub const WRITE_XGEM_FRAME: usize = 88;
 }
